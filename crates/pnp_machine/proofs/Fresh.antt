@@ -148,7 +148,7 @@ module _ (s : State) (o : Job) where
   removal_fresh stage m order distinct h (RemovalStep.takes_back node w e) = cancels s.core.nodes _ s.disabled o o.agreed
   removal_fresh stage m order distinct h (RemovalStep.cancels node w e) = cancels s.core.nodes _ s.disabled o (rest o.todo)
   removal_fresh stage m order distinct h (RemovalStep.removes node w e) = λ e there. changed_fresh o.target node.serial bare s.core.nodes s.disabled (λ n. refl) (λ n. refl) (h e there)
-  removal_fresh stage m order distinct h (RemovalStep.acts stage m act) = act_fresh stage m order distinct h act
+  removal_fresh stage m order distinct h (RemovalStep.acts at move act) = act_fresh stage m order distinct h act
 
 -- A step where no operation runs ----------------------------------------------------------------
 
@@ -237,7 +237,7 @@ fewer_without test (q ∷ qs) p h = grind (arith, fewer_without test qs p)
 
 fewer_paths : (s : State) (label : Label) (t : State) → IsWord label → PathEffect s label t → IsFewer s.disabled t.disabled
 fewer_paths s label t word (PathEffect.same e) = fewer_same s.disabled t.disabled e
-fewer_paths s label t word (PathEffect.disables o node runs first prints e) = absurd (subst (λ (x : Label). IsWord x) prints word)
+fewer_paths s label t word (PathEffect.disables o node runs course first prints e) = absurd (subst (λ (x : Label). IsWord x) prints word)
 fewer_paths s label t word (PathEffect.enables path e) = subst (IsFewer s.disabled) (sym e) (fewer_without (same path) s.disabled)
 
 fewer_fresh : (nodes : List Node) (old new : List Text) → IsFewer old new → (o : Option Job) → FreshWhile o nodes old → FreshWhile o nodes new

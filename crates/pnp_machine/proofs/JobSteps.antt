@@ -59,7 +59,7 @@ module _ (ds ds' : Devices) (rack rack' : List Driver) (disabled : List Text) (w
     removed : (step : RemoveStep) (m : JobMove) → Disables (Some (Does m)) → frames.Moved m step c' j' → record { label = label_of step; state = beside step settled mid } ≡ job_lifted s m
     removed (removes.Did label) m own (b, l, c, f) = lifted_is m Beside.On label _ b l (moved_is m c f)
     removed (removes.Left label path born) m own (b, l, c, f) = lifted_is m (Beside.Left path born) label _ b l (ap (relist path born) (moved_is m c f))
-    removed (removes.Disabled label) m own (path, shows, b, l, c, f) =
+    removed (removes.Disabled label) m own (path, shows, (b, l, c, f)) =
         lifted_is m (Beside.Disabled path) label _ b l (ap (λ x. disable_settled x mid) (own m path refl b) ∙ ap (disable_path path) (moved_is m c f))
     removed (removes.Ejected label path born) m own (b, l, c, f) = lifted_is m (Beside.Ejected path born) label _ b l (ap (λ x. relist path born (unplug born x)) (moved_is m c f))
     removed (removes.Over label) m own (b, l, c, f) = lifted_is m Beside.Over label _ b l (ap (set_operation None) (moved_is m c f))

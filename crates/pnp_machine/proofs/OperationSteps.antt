@@ -95,7 +95,7 @@ module _ (settled : Option Text) (disabled : List Text) (next : Option (Doing Jo
       by : (next : Option (Doing JobMove)) (step : RemoveStep) → IsAllowed settled disabled next → frames.MovedBy next step c' j' → IsNew step settled disabled
       by None step a h = absurd h
       by (Some (Searches problem by_answer)) step a h = absurd h
-      by (Some (Does m)) (removes.Disabled label) a (path, shows, b, l, c, f) = (a.new m path refl b).1
+      by (Some (Does m)) (removes.Disabled label) a (path, shows, (b, l, c, f)) = (a.new m path refl b).1
       by (Some (Does m)) _ a h = tt
 
 -- in a removal

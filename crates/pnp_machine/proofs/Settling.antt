@@ -95,7 +95,7 @@ module _ (c : Core) (o : Job) (handles : List Handle) where
 
   query_plain : (node : Node) (b : Bool) (m : JobMove) → removals.query c o node b ≡ Some m → IsPlain m.beside
   query_plain node true m e = plain_as _ m e IsPlain.on
-  query_plain node false m e = walks_plain c (removals.queried o) node (walk_of Minor.QueryRemove) _ m e
+  query_plain node false m e = walks_plain c (removals.queried o) node (walk_of Minor.QueryRemove) (Some (removals.answers c (removals.queried o) node false)) m e
 
   removal_acts : (stage : Stage) (n : Option Node) (m : JobMove) → o.stage ≡ stage → first_node c.nodes o.todo ≡ n → removals.acts c o handles stage n ≡ Some m → Kinds m.beside
   unfolding Kinds

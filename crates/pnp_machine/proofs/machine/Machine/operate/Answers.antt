@@ -84,8 +84,8 @@ after_step-requires-clause-new g c =
     subst (λ p. IfOk c.remove-moved.result (λ step. IsNew step c.in_ok-settled-in-Some-Removing.settled p)) (sym c.in_ok-make_room-2.ensures.paths)
     (removes_new s.devices rack s.disabled.paths s.starts.works s.tasks.tasks c.args.self.now c.remove-moved.new.self later o o2 is Course.Removing (is_back c.args.self.now o Course.Removing) c.in_ok-settled-in-Some-Removing.settled (removal_allows s.devices rack s.disabled.paths s.starts.works s.tasks.tasks c.args.self.now c.requires.run o is c.in_ok-settled-in-Some-Removing.ensures.course (is_back c.args.self.now o Course.Removing) c.in_ok-settled-in-Some-Removing.settled c.in_ok-settled-in-Some-Removing.ensures.path) c.remove-moved.result (removal_back s.devices rack s.disabled.paths s.starts.works s.tasks.tasks c.args.self.now c.remove-moved.new.self later o o2 (is_back c.args.self.now o Course.Removing) c.remove-moved.result c.remove-moved.ensures.removes))
 
-pub after_step-in-Some-Surprising-requires-clause-root : goal.after_step-in-Some-Surprising-requires-clause-root
-after_step-in-Some-Surprising-requires-clause-root g c =
+pub after_step-requires-in-Some-Surprising-clause-root : goal.after_step-requires-in-Some-Surprising-clause-root
+after_step-requires-in-Some-Surprising-clause-root g c =
     let s = c.self.inside in
     let rack = g.R.Drivers.rows s.rack in
     let later = g.R.Drivers.rows c.surprise-moved.new.rack in
@@ -94,8 +94,8 @@ after_step-in-Some-Surprising-requires-clause-root g c =
     let is = was_is s.devices rack s.disabled.paths s.starts.works s.tasks.tasks c.args.self.now _ _ c.self.view_is (c.in-Some-Surprising.is ∙ ap Some c.in-Some-Surprising.field-0-is) in
     removes_root s.devices rack s.disabled.paths s.starts.works s.tasks.tasks c.args.self.now c.surprise-moved.new.self later o o2 is Course.Surprising c.is_target_in_world-in_world.result None (other_allows s.devices rack s.disabled.paths s.starts.works s.tasks.tasks c.args.self.now o Course.Surprising (λ e. cc) (λ e. cc) c.is_target_in_world-in_world.result None) c.surprise-moved.result c.surprise-moved.ensures.removes
 
-pub after_step-in-Some-Surprising-requires-clause-new : goal.after_step-in-Some-Surprising-requires-clause-new
-after_step-in-Some-Surprising-requires-clause-new g c =
+pub after_step-requires-in-Some-Surprising-clause-new : goal.after_step-requires-in-Some-Surprising-clause-new
+after_step-requires-in-Some-Surprising-clause-new g c =
     let s = c.self.inside in
     let rack = g.R.Drivers.rows s.rack in
     let later = g.R.Drivers.rows c.surprise-moved.new.rack in
@@ -105,8 +105,8 @@ after_step-in-Some-Surprising-requires-clause-new g c =
     subst (λ p. IfOk c.surprise-moved.result (λ step. IsNew step None p)) (sym c.in_ok-make_room-2.ensures.paths)
     (removes_new s.devices rack s.disabled.paths s.starts.works s.tasks.tasks c.args.self.now c.surprise-moved.new.self later o o2 is Course.Surprising c.is_target_in_world-in_world.result None (other_allows s.devices rack s.disabled.paths s.starts.works s.tasks.tasks c.args.self.now o Course.Surprising (λ e. cc) (λ e. cc) c.is_target_in_world-in_world.result None) c.surprise-moved.result c.surprise-moved.ensures.removes)
 
-pub after_step-in-Some-Finishing-requires-clause-root : goal.after_step-in-Some-Finishing-requires-clause-root
-after_step-in-Some-Finishing-requires-clause-root g c =
+pub after_step-requires-in-Some-Finishing-clause-root : goal.after_step-requires-in-Some-Finishing-clause-root
+after_step-requires-in-Some-Finishing-clause-root g c =
     let s = c.self.inside in
     let rack = g.R.Drivers.rows s.rack in
     let later = g.R.Drivers.rows c.finish-moved.new.rack in
@@ -115,8 +115,8 @@ after_step-in-Some-Finishing-requires-clause-root g c =
     let is = was_is s.devices rack s.disabled.paths s.starts.works s.tasks.tasks c.args.self.now _ _ c.self.view_is (c.in-Some-Finishing.is ∙ ap Some c.in-Some-Finishing.field-0-is) in
     removes_root s.devices rack s.disabled.paths s.starts.works s.tasks.tasks c.args.self.now c.finish-moved.new.self later o o2 is Course.Finishing c.is_current_in_world-in_world.result None (other_allows s.devices rack s.disabled.paths s.starts.works s.tasks.tasks c.args.self.now o Course.Finishing (λ e. cc) (λ e. cc) c.is_current_in_world-in_world.result None) c.finish-moved.result c.finish-moved.ensures.removes
 
-pub after_step-in-Some-Finishing-requires-clause-new : goal.after_step-in-Some-Finishing-requires-clause-new
-after_step-in-Some-Finishing-requires-clause-new g c =
+pub after_step-requires-in-Some-Finishing-clause-new : goal.after_step-requires-in-Some-Finishing-clause-new
+after_step-requires-in-Some-Finishing-clause-new g c =
     let s = c.self.inside in
     let rack = g.R.Drivers.rows s.rack in
     let later = g.R.Drivers.rows c.finish-moved.new.rack in
