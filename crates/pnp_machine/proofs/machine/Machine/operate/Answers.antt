@@ -2,7 +2,7 @@ use Rattle.std.proofs.Common.{◌∙◌, Some, None, IfOk, sym, ap, subst, optio
 use Rattle.pnp_model.specs.Machine.{is_back}
 use Rattle.pnp_model.specs.Records.{Course, State}
 use Rattle.start_sequence.specs.Begins.{settings_of}
-use Rattle.pnp_machine.specs.Machines.{beside_made, IsNew}
+use Rattle.pnp_machine.specs.Machines.{beside_made, state_of, IsNew}
 use Rattle.pnp_machine.specs.Operations.{operation_of}
 use Rattle.pnp_machine.specs.Rebalanced.{beside_rebalance, rebalance_label}
 use Rattle.pnp_machine.proofs.OperationSteps.{none_starts, rebalance_needs, removal_needs, surprise_needs, finish_needs, removal_allows, other_allows, removal_back, removes_root, removes_new, removes_move, rebalance_moves, room_made, stays, told_by, was_is}
@@ -139,7 +139,7 @@ returns-clause-done g c =
           let r2 = w.rebalance.new.rebalance in
           let is = was_is s.devices rack s.disabled.paths s.starts.works s.tasks.tasks c.args.self.now _ _ c.self.view_is (c.operation-in-Some-1.given.1 ∙ ap Some w.operation-in-Rebalancing-1.given.1) in
           let done = w.apply_rebalance.ensures.state ds later c.make_room-2.new.self.paths
-          ∙ ap (λ i. beside_rebalance step i _) w.target-target.ensures
+          ∙ ap (λ i. beside_rebalance step i (state_of ds later c.make_room-2.new.self.paths c.make_room.new.self.works (Some r2) c.make_room-3.new.self.tasks)) w.target-target.ensures
           ∙ room_made (λ x. beside_rebalance step r2.target x) ds later r2 _ _ _ _ _ _ c.in_ok-make_room-2.ensures.paths c.in_ok-make_room.ensures.same c.in_ok-make_room-3.ensures.tasks in
           let moves = rebalance_moves s.devices rack s.disabled.paths s.starts.works s.tasks.tasks c.args.self.now ds later r r2 infs c.args.budget step is w.rebalance.ensures.course c.requires.turn w.in_ok-step-in-Some-Rebalancing.ensures.rebalances in
           told_by (settings_of infs c.args.budget) c.args.self.now w.apply_rebalance.result (rebalance_label step) _ _ w.apply_rebalance.ensures.label done moves))
