@@ -8,7 +8,7 @@ use Rattle.pnp_model.specs.Cores.{set_rack}
 use Rattle.pnp_model.specs.Handles.{is_open, ready_device}
 use Rattle.pnp_model.specs.Surprises.{stays_behind}
 use Rattle.pnp_model.specs.Trees.{grown, closed_in, direct, dependents, set_of, is_free, greatest, leaving_in, leaving}
-use Rattle.pnp_model.specs.Records.{Core, Driver, Handle, Surprise, Found, Doing, SearchProblem, doing_map}
+use Rattle.pnp_model.specs.Records.{Core, Driver, Handle, Job, Found, Doing, SearchProblem, doing_map}
 use Rattle.pnp_model.specs.Records.Doing.{Does, Searches}
 
 -- what is done, outright or by a search, in the one and in the other
@@ -67,7 +67,7 @@ leaving_same c rack k =
     ap (λ (set : List ℕ). leaving_in (length set) (set_rack rack c) set) (closed_same (length c.nodes) c rack (k ∷ []))
     ∙ leaving_in_same (length (set_of c k)) c rack (set_of c k)
 
-pub stays_same : (c : Core) (rack : List Driver) (o : Surprise) (handles : List Handle) (k : ℕ) → stays_behind (set_rack rack c) o handles k ≡ stays_behind c o handles k
+pub stays_same : (c : Core) (rack : List Driver) (o : Job) (handles : List Handle) (k : ℕ) → stays_behind (set_rack rack c) o handles k ≡ stays_behind c o handles k
 stays_same c rack o handles k =
     ap (λ (ks : List ℕ). has o.told k || (is_open handles k || list_any (λ j. has o.behind j) ks)) (dependents_same c rack k)
 

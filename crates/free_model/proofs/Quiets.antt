@@ -1,16 +1,21 @@
 -- Whether a state is quiet does not depend on books.
 use Rattle.std.proofs.Common.{ℕ, ◌≡◌, Bool, true, false, List, [], ◌∷◌, Option, Some, None, refl, sym, ap, ◌∙◌}
-use Rattle.std.specs.Prelude.{slice_get, find, is_none, option_map}
+use Rattle.std.specs.Prelude.{slice_get, find, is_none, length, option_map, if◌then◌else◌}
 use Rattle.pnp_labels.specs.declared.label.OpKind.{OpKind}
 use Rattle.pnp_model.specs.Cores.{set_rack, node_at}
-use Rattle.pnp_model.specs.Frames.{first_node}
-use Rattle.pnp_model.specs.Rebalances.{rebalance_step, rebalanced}
-use Rattle.pnp_model.specs.Removals.{removal_step, removed}
-use Rattle.pnp_model.specs.Surprises.{surprise_step, surprised}
-use Rattle.pnp_model.specs.Finishes.{finish_step, finished}
-use Rattle.pnp_model.specs.Records.{Node, Core, Driver, Handle, Activity, Task, State, Settings, Duty, doing_map, Operation, Rebalance, RebalanceStage, Removal, RemovalStage, Surprise, SurpriseStage, Finish, FinishStage}
+use Rattle.pnp_model.specs.Frames.{asked, first_node}
+use Rattle.pnp_model.specs.Jobs as jobs
+use Rattle.pnp_model.specs.Jobs.{walks}
+use Rattle.pnp_model.specs.Walks.{has_ended, is_bad, walk_of}
+use Rattle.pnp_labels.specs.declared.words.Minor.{Minor}
+use Rattle.pnp_model.specs.Records.{Node, Core, Driver, Handle, Walk, Activity, Task, State, Settings, Duty, doing_map, Job, Course, Stage, course_of}
 use Rattle.pnp_model.specs.Records.Doing.{Does}
-use Rattle.pnp_model.specs.Machine.{is_waiting, is_ready, is_target_in_world, is_current_in_world, operation_walk, operation_next, activity_next, begin_alone, task_of, task_next, idle_next, next_of, next, IsQuiet, rebalance_lifted, removal_lifted, surprise_lifted, finish_lifted}
+use Rattle.pnp_model.specs.Removals.{query, refuses_unasked}
+use Rattle.pnp_model.specs.Rebalances as rebalances
+use Rattle.pnp_model.specs.Removals as removals
+use Rattle.pnp_model.specs.Surprises as surprises
+use Rattle.pnp_model.specs.Finishes as finishes
+use Rattle.pnp_model.specs.Machine.{after_end, acts, is_back, is_waiting, is_ready, job_lifted, job_step, operation_next, activity_next, begin_alone, task_of, task_next, idle_next, next_of, next, IsQuiet}
 use Rattle.free_model.specs.Frees.{with_rack}
 
 mapped : {A B : Type 0} (f : A → B) (o : Option A) → is_none (option_map f o) ≡ is_none o
@@ -21,75 +26,68 @@ none : {A : Type 0} (o : Option A) → is_none o ≡ true → o ≡ None
 none None e = refl
 none (Some a) e = absurd (cc)
 
-of_rebalance : (c : Core) (t : List Driver) (r : Rebalance) (stage : RebalanceStage) (o : Option Node) → is_none (rebalance_step (set_rack t c) r stage o) ≡ is_none (rebalance_step c r stage o)
-of_rebalance c t r RebalanceStage.Searching o = refl
-of_rebalance c t r RebalanceStage.Stuck o = refl
-of_rebalance c t r RebalanceStage.Committing o = refl
-of_rebalance c t r RebalanceStage.Ending o = refl
-of_rebalance c t r (RebalanceStage.Asking w) (Some node) = refl
-of_rebalance c t r (RebalanceStage.TakingBack w) (Some node) = refl
-of_rebalance c t r (RebalanceStage.Cancelling w) (Some node) = refl
-of_rebalance c t r (RebalanceStage.Stopping w) (Some node) = refl
-of_rebalance c t r (RebalanceStage.Restarting w) (Some node) = refl
-of_rebalance c t r RebalanceStage.Failed (Some node) = refl
-of_rebalance c t r (RebalanceStage.Asking w) None = refl
-of_rebalance c t r (RebalanceStage.TakingBack w) None = refl
-of_rebalance c t r (RebalanceStage.Cancelling w) None = refl
-of_rebalance c t r (RebalanceStage.Stopping w) None = refl
-of_rebalance c t r (RebalanceStage.Restarting w) None = refl
-of_rebalance c t r RebalanceStage.Failed None = refl
+-- a request that is on its way goes on with any rack
+of_walk : (c : Core) (t : List Driver) (j : Job) (node : Node) (w : Walk) (next : Option Job) → is_none (walks (set_rack t c) j node w next) ≡ is_none (walks c j node w next)
+of_walk c t j node w next = over next (has_ended w (length node.stack))
+  where
+    over : (next : Option Job) (ended : Bool) → is_none (if ended then option_map (jobs.ends (set_rack t c) node w) next else Some (jobs.asks j (asked (set_rack t c) node w))) ≡ is_none (if ended then option_map (jobs.ends c node w) next else Some (jobs.asks j (asked c node w)))
+    over None true = refl
+    over (Some k) true = refl
+    over next false = refl
 
-of_removal : (c : Core) (t : List Driver) (o : Removal) (handles : List Handle) (stage : RemovalStage) (n : Option Node) → is_none (removal_step (set_rack t c) o handles stage n) ≡ is_none (removal_step c o handles stage n)
-of_removal c t o handles RemovalStage.Ending n = refl
-of_removal c t o handles RemovalStage.Next (Some node) = refl
-of_removal c t o handles (RemovalStage.Asking w) (Some node) = refl
-of_removal c t o handles (RemovalStage.TakingBack w) (Some node) = refl
-of_removal c t o handles (RemovalStage.Cancelling w) (Some node) = refl
-of_removal c t o handles (RemovalStage.Removing w) (Some node) = refl
-of_removal c t o handles RemovalStage.Settling (Some node) = refl
-of_removal c t o handles RemovalStage.Next None = refl
-of_removal c t o handles (RemovalStage.Asking w) None = refl
-of_removal c t o handles (RemovalStage.TakingBack w) None = refl
-of_removal c t o handles (RemovalStage.Cancelling w) None = refl
-of_removal c t o handles (RemovalStage.Removing w) None = refl
-of_removal c t o handles RemovalStage.Settling None = refl
+of_query : (c : Core) (t : List Driver) (j : Job) (node : Node) (refuses : Bool) → is_none (query (set_rack t c) j node refuses) ≡ is_none (query c j node refuses)
+of_query c t j node true = refl
+of_query c t j node false = of_walk c t (removals.queried j) node (walk_of Minor.QueryRemove) (Some (removals.answers c (removals.queried j) node false))
 
-of_surprise : (c : Core) (t : List Driver) (o : Surprise) (b : Bool) (handles : List Handle) (stage : SurpriseStage) (n : Option Node) → is_none (surprise_step (set_rack t c) o b handles stage n) ≡ is_none (surprise_step c o b handles stage n)
-of_surprise c t o b handles SurpriseStage.Ending n = refl
-of_surprise c t o b handles SurpriseStage.Next (Some node) = refl
-of_surprise c t o b handles (SurpriseStage.Telling w) (Some node) = refl
-of_surprise c t o b handles (SurpriseStage.Removing w) (Some node) = refl
-of_surprise c t o b handles SurpriseStage.Settling (Some node) = refl
-of_surprise c t o b handles SurpriseStage.Next None = refl
-of_surprise c t o b handles (SurpriseStage.Telling w) None = refl
-of_surprise c t o b handles (SurpriseStage.Removing w) None = refl
-of_surprise c t o b handles SurpriseStage.Settling None = refl
+of_rebalance : (c : Core) (t : List Driver) (j : Job) (stage : Stage) (n : Option Node) → is_none (rebalances.acts (set_rack t c) j stage n) ≡ is_none (rebalances.acts c j stage n)
+of_rebalance c t j Stage.Failed None = refl
+of_rebalance c t j Stage.Failed (Some node) = refl
+of_rebalance c t j _ n = refl
 
-of_finish : (c : Core) (t : List Driver) (f : Finish) (b : Bool) (handles : List Handle) (stage : FinishStage) (n : Option Node) → is_none (finish_step (set_rack t c) f b handles stage n) ≡ is_none (finish_step c f b handles stage n)
-of_finish c t f b handles FinishStage.Next n = refl
-of_finish c t f b handles (FinishStage.Removing w) (Some node) = refl
-of_finish c t f b handles FinishStage.Leaving (Some node) = refl
-of_finish c t f b handles FinishStage.Holding (Some node) = refl
-of_finish c t f b handles (FinishStage.Removing w) None = refl
-of_finish c t f b handles FinishStage.Leaving None = refl
-of_finish c t f b handles FinishStage.Holding None = refl
+of_removal : (c : Core) (t : List Driver) (j : Job) (handles : List Handle) (stage : Stage) (n : Option Node) → is_none (removals.acts (set_rack t c) j handles stage n) ≡ is_none (removals.acts c j handles stage n)
+of_removal c t j handles Stage.Next None = refl
+of_removal c t j handles Stage.Next (Some node) = of_query c t j node (refuses_unasked handles node)
+of_removal c t j handles Stage.Settling None = refl
+of_removal c t j handles Stage.Settling (Some node) = refl
+of_removal c t j handles _ n = refl
 
-of_operation : (s : State) (t : List Driver) (o : Operation) (waits : Bool) → is_none (operation_next (with_rack t s) o waits) ≡ is_none (operation_next s o waits)
-of_operation s t o true = refl
-of_operation s t (Operation.Rebalancing r) false =
-    mapped (doing_map (rebalance_lifted (with_rack t s))) (rebalanced (set_rack t s.core) r)
-    ∙ of_rebalance s.core t r r.stage (first_node s.core.nodes r.todo) ∙ sym (mapped (doing_map (rebalance_lifted s)) (rebalanced s.core r))
-of_operation s t (Operation.Removing o) false =
-    mapped (λ m. Does (removal_lifted (with_rack t s) m)) (removed (set_rack t s.core) o s.handles)
-    ∙ of_removal s.core t o s.handles o.stage (first_node s.core.nodes o.todo) ∙ sym (mapped (λ m. Does (removal_lifted s m)) (removed s.core o s.handles))
-of_operation s t (Operation.Surprising o) false =
-    mapped (λ m. Does (surprise_lifted (with_rack t s) m)) (surprised (set_rack t s.core) o (is_target_in_world s o) s.handles)
-    ∙ of_surprise s.core t o (is_target_in_world s o) s.handles o.stage (first_node s.core.nodes o.todo)
-    ∙ sym (mapped (λ m. Does (surprise_lifted s m)) (surprised s.core o (is_target_in_world s o) s.handles))
-of_operation s t (Operation.Finishing f) false =
-    mapped (λ m. Does (finish_lifted (with_rack t s) m)) (finished (set_rack t s.core) f (is_current_in_world s f) s.handles)
-    ∙ of_finish s.core t f (is_current_in_world s f) s.handles f.stage (first_node s.core.nodes f.todo)
-    ∙ sym (mapped (λ m. Does (finish_lifted s m)) (finished s.core f (is_current_in_world s f) s.handles))
+of_surprise : (c : Core) (t : List Driver) (j : Job) (b : Bool) (handles : List Handle) (stage : Stage) (n : Option Node) → is_none (surprises.acts (set_rack t c) j b handles stage n) ≡ is_none (surprises.acts c j b handles stage n)
+of_surprise c t j b handles Stage.Next None = refl
+of_surprise c t j b handles Stage.Next (Some node) = refl
+of_surprise c t j b handles Stage.Settling None = refl
+of_surprise c t j b handles Stage.Settling (Some node) = refl
+of_surprise c t j b handles _ n = refl
+
+of_finish : (c : Core) (t : List Driver) (j : Job) (handles : List Handle) (stage : Stage) (n : Option Node) → is_none (finishes.acts (set_rack t c) j handles stage n) ≡ is_none (finishes.acts c j handles stage n)
+of_finish c t j handles Stage.Leaving None = refl
+of_finish c t j handles Stage.Leaving (Some node) = refl
+of_finish c t j handles Stage.Holding None = refl
+of_finish c t j handles Stage.Holding (Some node) = refl
+of_finish c t j handles _ n = refl
+
+of_acts : (c : Core) (t : List Driver) (j : Job) (b : Bool) (handles : List Handle) (n : Option Node) (course : Course) → is_none (acts (set_rack t c) j b handles n course) ≡ is_none (acts c j b handles n course)
+of_acts c t j b handles n Course.Rebalancing = of_rebalance c t j j.stage n
+of_acts c t j b handles n Course.Removing =
+    mapped (λ m. Does m) (removals.acts (set_rack t c) j handles j.stage n) ∙ of_removal c t j handles j.stage n ∙ sym (mapped (λ m. Does m) (removals.acts c j handles j.stage n))
+of_acts c t j b handles n Course.Surprising =
+    mapped (λ m. Does m) (surprises.acts (set_rack t c) j b handles j.stage n) ∙ of_surprise c t j b handles j.stage n ∙ sym (mapped (λ m. Does m) (surprises.acts c j b handles j.stage n))
+of_acts c t j b handles n Course.Finishing =
+    mapped (λ m. Does m) (finishes.acts (set_rack t c) j handles j.stage n) ∙ of_finish c t j handles j.stage n ∙ sym (mapped (λ m. Does m) (finishes.acts c j handles j.stage n))
+
+of_job : (c : Core) (t : List Driver) (j : Job) (course : Course) (b : Bool) (handles : List Handle) (w : Option Walk) (n : Option Node) → is_none (job_step (set_rack t c) j course b handles w n) ≡ is_none (job_step c j course b handles w n)
+of_job c t j course b handles None n = of_acts c t j b handles n course
+of_job c t j course b handles (Some w) None = refl
+of_job c t j course b handles (Some w) (Some node) =
+    let next = after_end c j b node (is_bad w) course in
+    mapped (λ m. Does m) (walks (set_rack t c) j node w next) ∙ of_walk c t j node w next ∙ sym (mapped (λ m. Does m) (walks c j node w next))
+
+of_operation : (s : State) (t : List Driver) (j : Job) (waits : Bool) → is_none (operation_next (with_rack t s) j waits) ≡ is_none (operation_next s j waits)
+of_operation s t j true = refl
+of_operation s t j false =
+    let back = is_back s j (course_of j.kind) in
+    let first = first_node s.core.nodes j.todo in
+    mapped (doing_map (job_lifted (with_rack t s))) (job_step (set_rack t s.core) j (course_of j.kind) back s.handles j.walk first)
+    ∙ of_job s.core t j (course_of j.kind) back s.handles j.walk first ∙ sym (mapped (doing_map (job_lifted s)) (job_step s.core j (course_of j.kind) back s.handles j.walk first))
 
 of_activity : (s : State) (t : List Driver) (a : Activity) (o : Option Node) → is_none (activity_next (with_rack t s) a o) ≡ is_none (activity_next s a o)
 of_activity s t a None = refl
@@ -112,8 +110,8 @@ of_idle : (settings : Settings) (s : State) (t : List Driver) (o : Option Activi
 of_idle settings s t (Some a) = of_activity s t a (node_at a.serial s.core.nodes)
 of_idle settings s t None = of_task settings s t (slice_get s.tasks 0)
 
-of_next : (settings : Settings) (s : State) (t : List Driver) (o : Option Operation) → is_none (next_of settings (with_rack t s) o) ≡ is_none (next_of settings s o)
-of_next settings s t (Some o) = of_operation s t o (is_waiting (operation_walk o))
+of_next : (settings : Settings) (s : State) (t : List Driver) (o : Option Job) → is_none (next_of settings (with_rack t s) o) ≡ is_none (next_of settings s o)
+of_next settings s t (Some j) = of_operation s t j (is_waiting j.walk)
 of_next settings s t None = of_idle settings s t (find is_ready s.activities)
 
 -- quiet with one rack, quiet with another

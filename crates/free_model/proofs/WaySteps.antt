@@ -1,6 +1,6 @@
 -- The machine's next step with other answers.
 use Rattle.std.proofs.Common.{ℕ, ◌≡◌, Bool, true, false, List, [], ◌∷◌, length, Option, Some, None, refl, sym, ap, ◌∙◌, subst}
-use Rattle.std.specs.Prelude.{◌==◌, ◌+◌, nat_le, option_map, slice_get, find}
+use Rattle.std.specs.Prelude.{◌==◌, ◌+◌, nat_le, slice_get, find}
 use Rattle.pnp_labels.specs.Texts.{Text}
 use Rattle.pnp_labels.specs.declared.states.DevState.{DevState}
 use Rattle.pnp_labels.specs.declared.states.DevState.TheVariants.{NoStack, NotStarted, Started, StopPending, Stopped, RemovePending, SurpriseRemoved}
@@ -11,30 +11,25 @@ use Rattle.pnp_model.specs.Tests.{has_same}
 use Rattle.pnp_model.specs.Books.{driver_named}
 use Rattle.pnp_model.specs.Cores.{set_rack, node_at}
 use Rattle.pnp_model.specs.States.{device_born, device_of, node_born, relist, relist_device, relist_other, list_node, unplug, set_operation, activity_at, with_core}
-use Rattle.pnp_model.specs.Records.{Node, Core, Driver, Device, Activity, Phase, Task, State, Step, Settings, Choice, Duty, Doing, doing_map, Operation, Rebalance}
-use Rattle.pnp_model.specs.Records.Doing.{Does}
+use Rattle.pnp_model.specs.Records.{Node, Core, Driver, Device, Activity, Phase, Task, State, Step, Settings, Choice, Duty, Doing, Job, course_of}
 use Rattle.pnp_model.specs.Starts.{StartMove, StartBeside}
-use Rattle.pnp_model.specs.Rebalances.{RebalanceMove, RebalanceBeside}
+use Rattle.pnp_model.specs.Jobs.{JobMove, Beside}
 use Rattle.pnp_model.specs.Removals as removals
-use Rattle.pnp_model.specs.Removals.{RemovalMove, RemoveBeside, removed}
 use Rattle.pnp_model.specs.Surprises as surprises
-use Rattle.pnp_model.specs.Surprises.{SurpriseMove, surprised}
-use Rattle.pnp_model.specs.Finishes.{FinishMove, finished}
 use Rattle.pnp_model.specs.Handles.{is_ready_device}
 use Rattle.pnp_model.specs.Tasks as tasks
 use Rattle.pnp_model.specs.Tasks.{list_step, start_step, begin_step, joining, gone_child, numbered}
 use Rattle.pnp_model.specs.Frames.{first_node}
-use Rattle.pnp_model.specs.Machine.{after_start, start_lifted, after_rebalance, rebalance_lifted, after_remove, removal_lifted, surprise_lifted, finish_lifted, is_waiting, is_ready, is_target_in_world, is_current_in_world, operation_walk, operation_next, activity_next, begin_alone, task_of, task_next, idle_next, next_of, next, IsStep}
+use Rattle.pnp_model.specs.Machine.{after_start, start_lifted, after_job, job_lifted, is_back, is_waiting, is_ready, operation_next, activity_next, begin_alone, task_of, task_next, idle_next, next_of, next, IsStep}
 use Rattle.free_model.specs.Frees.{with_rack}
 use Rattle.free_model.proofs.Racks.{same_names, same_numbers, all_numbers}
 use Rattle.free_model.specs.Shapes.{faces}
 use Rattle.free_model.proofs.Alikes.{Alike, rests, does, searches, alike_map, leaving_same}
-use Rattle.free_model.specs.Asks.{Query, phase_query, rebalance_query, removal_query, surprise_query, finish_query, operation_query, activity_query, idle_query, query_of, next_query}
+use Rattle.free_model.specs.Asks.{Query, phase_query, job_query, operation_query, activity_query, idle_query, query_of, next_query}
 use Rattle.pnp_labels.specs.declared.words.Answer.{Answer}
 use Rattle.free_model.proofs.Ways.{KinLabel, one, Way, WayMove, rack_by, Agree}
-use Rattle.free_model.proofs.Alikes.{done}
 use Rattle.free_model.proofs.WayOps.{way_act}
-use Rattle.free_model.proofs.WayFrames.{way_rebalanced, way_removed, way_surprised, way_finished}
+use Rattle.free_model.proofs.WayFrames.{way_job}
 
 same : (rack other : List Driver) (x : Step) → x.state.core.rack ≡ rack → Way None rack other x (record { label = x.label; state = with_rack other x.state })
 same rack other x own = record { kin = one x.label; own = own; agrees = λ e. refl; same = λ e. refl }
@@ -132,18 +127,18 @@ way_start settings s t k (Some node) e = start_bare settings s t node node.state
 -- Beginning ------------------------------------------------------------------------------
 
 begin_removal : (s : State) (t : List Driver) (kind : OpKind) (node : Node)
-    → Way None s.core.rack t (tasks.begin s kind node (Operation.Removing (removals.begun_removal s.core kind node))) (tasks.begin (with_rack t s) kind node (Operation.Removing (removals.begun_removal (set_rack t s.core) kind node)))
+    → Way None s.core.rack t (tasks.begin s kind node (removals.begun_removal s.core kind node)) (tasks.begin (with_rack t s) kind node (removals.begun_removal (set_rack t s.core) kind node))
 begin_removal s t kind node =
     instead s.core.rack t _ _ _
-    (ap (λ (set : List ℕ). tasks.begin (with_rack t s) kind node (Operation.Removing (removals.begun_with s.core kind node set))) (leaving_same s.core t node.serial))
-    (same s.core.rack t (tasks.begin s kind node (Operation.Removing (removals.begun_removal s.core kind node))) refl)
+    (ap (λ (set : List ℕ). tasks.begin (with_rack t s) kind node (removals.begun_with s.core kind node set)) (leaving_same s.core t node.serial))
+    (same s.core.rack t (tasks.begin s kind node (removals.begun_removal s.core kind node)) refl)
 
 begin_surprise : (s : State) (t : List Driver) (node : Node)
-    → Way None s.core.rack t (tasks.begin s OpKind.Surprise node (Operation.Surprising (surprises.begun_surprise s.core node))) (tasks.begin (with_rack t s) OpKind.Surprise node (Operation.Surprising (surprises.begun_surprise (set_rack t s.core) node)))
+    → Way None s.core.rack t (tasks.begin s OpKind.Surprise node (surprises.begun_surprise s.core node)) (tasks.begin (with_rack t s) OpKind.Surprise node (surprises.begun_surprise (set_rack t s.core) node))
 begin_surprise s t node =
     instead s.core.rack t _ _ _
-    (ap (λ (set : List ℕ). tasks.begin (with_rack t s) OpKind.Surprise node (Operation.Surprising (surprises.begun_with s.core node set))) (leaving_same s.core t node.serial))
-    (same s.core.rack t (tasks.begin s OpKind.Surprise node (Operation.Surprising (surprises.begun_surprise s.core node))) refl)
+    (ap (λ (set : List ℕ). tasks.begin (with_rack t s) OpKind.Surprise node (surprises.begun_with s.core node set)) (leaving_same s.core t node.serial))
+    (same s.core.rack t (tasks.begin s OpKind.Surprise node (surprises.begun_surprise s.core node)) refl)
 
 rebalance_idle : (s : State) (t : List Driver) (node : Node) (o : Option Activity) → Way None s.core.rack t (tasks.rebalance_idle s node o) (tasks.rebalance_idle (with_rack t s) node o)
 rebalance_idle s t node (Some a) = same s.core.rack t (tasks.rebalance_idle s node (Some a)) refl
@@ -222,33 +217,6 @@ lift_start q s t k x y h =
       same = λ e. ap (λ (m : StartMove). (start_lifted (with_rack t s) k m).state) (h.same e) ∙ start_over k x.frame x.beside (with_core x.core s) (rack_by q t);
     }
 
-rebalance_over : (r : Rebalance) (b : RebalanceBeside) (u : State) (other : List Driver) → after_rebalance r b (with_rack other u) ≡ with_rack other (after_rebalance r b u)
-rebalance_over r RebalanceBeside.On u other = refl
-rebalance_over r (RebalanceBeside.FailedRestart k) u other = refl
-rebalance_over r RebalanceBeside.OverStart u other = refl
-rebalance_over r RebalanceBeside.OverUndo u other = refl
-rebalance_over r RebalanceBeside.OverDropped u other = refl
-rebalance_over r RebalanceBeside.OverChange u other = refl
-
-rebalance_core : (r : Rebalance) (b : RebalanceBeside) (u : State) → (after_rebalance r b u).core ≡ u.core
-rebalance_core r RebalanceBeside.On u = refl
-rebalance_core r (RebalanceBeside.FailedRestart k) u = refl
-rebalance_core r RebalanceBeside.OverStart u = refl
-rebalance_core r RebalanceBeside.OverUndo u = refl
-rebalance_core r RebalanceBeside.OverDropped u = refl
-rebalance_core r RebalanceBeside.OverChange u = refl
-
-lift_rebalance : (q : Option Query) (s : State) (t : List Driver) (x y : RebalanceMove) → WayMove q s.core.rack t x y → Way q s.core.rack t (rebalance_lifted s x) (rebalance_lifted (with_rack t s) y)
-lift_rebalance q s t x y h =
-    record {
-      kin = h.kin;
-      own = ap (λ (c : Core). c.rack) (rebalance_core x.frame x.beside (with_core x.core s)) ∙ h.own;
-      agrees =
-          λ e. ap (rebalance_lifted (with_rack t s)) (h.agrees e)
-          ∙ ap (λ (u : State). record { label = x.label; state = u }) (rebalance_over x.frame x.beside (with_core x.core s) (rack_by q t));
-      same = λ e. ap (λ (m : RebalanceMove). (rebalance_lifted (with_rack t s) m).state) (h.same e) ∙ rebalance_over x.frame x.beside (with_core x.core s) (rack_by q t);
-    }
-
 list_over : (o : Option Node) (u : State) (other : List Driver) → list_node o (with_rack other u) ≡ with_rack other (list_node o u)
 list_over None u other = refl
 list_over (Some n) u other = refl
@@ -279,51 +247,35 @@ relist_core_device born (Some d) u = relist_core_other d (d.born == born) u
 relist_core : (path : Text) (born : ℕ) (u : State) → (relist path born u).core ≡ u.core
 relist_core path born u = relist_core_device born (device_of path u.world) u
 
-remove_over : (o : Operation) (b : RemoveBeside) (u : State) (other : List Driver) → after_remove o b (with_rack other u) ≡ with_rack other (after_remove o b u)
-remove_over o RemoveBeside.On u other = refl
-remove_over o (RemoveBeside.Left path born) u other = relist_over path born (set_operation (Some o) u) other
-remove_over o (RemoveBeside.Disabled path) u other = refl
-remove_over o (RemoveBeside.Ejected path born) u other = relist_over path born (unplug born (set_operation (Some o) u)) other
-remove_over o RemoveBeside.Over u other = refl
+job_over : (j : Job) (b : Beside) (u : State) (other : List Driver) → after_job j b (with_rack other u) ≡ with_rack other (after_job j b u)
+job_over j Beside.On u other = refl
+job_over j (Beside.Left path born) u other = relist_over path born (set_operation (Some j) u) other
+job_over j (Beside.Disabled path) u other = refl
+job_over j (Beside.Ejected path born) u other = relist_over path born (unplug born (set_operation (Some j) u)) other
+job_over j (Beside.FailedRestart k) u other = refl
+job_over j Beside.Over u other = refl
+job_over j Beside.OverStart u other = refl
+job_over j Beside.OverUndo u other = refl
 
-remove_core : (o : Operation) (b : RemoveBeside) (u : State) → (after_remove o b u).core ≡ u.core
-remove_core o RemoveBeside.On u = refl
-remove_core o (RemoveBeside.Left path born) u = relist_core path born (set_operation (Some o) u)
-remove_core o (RemoveBeside.Disabled path) u = refl
-remove_core o (RemoveBeside.Ejected path born) u = relist_core path born (unplug born (set_operation (Some o) u))
-remove_core o RemoveBeside.Over u = refl
+job_core : (j : Job) (b : Beside) (u : State) → (after_job j b u).core ≡ u.core
+job_core j Beside.On u = refl
+job_core j (Beside.Left path born) u = relist_core path born (set_operation (Some j) u)
+job_core j (Beside.Disabled path) u = refl
+job_core j (Beside.Ejected path born) u = relist_core path born (unplug born (set_operation (Some j) u))
+job_core j (Beside.FailedRestart k) u = refl
+job_core j Beside.Over u = refl
+job_core j Beside.OverStart u = refl
+job_core j Beside.OverUndo u = refl
 
-lift_removal : (q : Option Query) (s : State) (t : List Driver) (x y : RemovalMove) → WayMove q s.core.rack t x y → Way q s.core.rack t (removal_lifted s x) (removal_lifted (with_rack t s) y)
-lift_removal q s t x y h =
+lift_job : (q : Option Query) (s : State) (t : List Driver) (x y : JobMove) → WayMove q s.core.rack t x y → Way q s.core.rack t (job_lifted s x) (job_lifted (with_rack t s) y)
+lift_job q s t x y h =
     record {
       kin = h.kin;
-      own = ap (λ (c : Core). c.rack) (remove_core (Operation.Removing x.frame) x.beside (with_core x.core s)) ∙ h.own;
+      own = ap (λ (c : Core). c.rack) (job_core x.frame x.beside (with_core x.core s)) ∙ h.own;
       agrees =
-          λ e. ap (removal_lifted (with_rack t s)) (h.agrees e)
-          ∙ ap (λ (u : State). record { label = x.label; state = u }) (remove_over (Operation.Removing x.frame) x.beside (with_core x.core s) (rack_by q t));
-      same = λ e. ap (λ (m : RemovalMove). (removal_lifted (with_rack t s) m).state) (h.same e) ∙ remove_over (Operation.Removing x.frame) x.beside (with_core x.core s) (rack_by q t);
-    }
-
-lift_surprise : (q : Option Query) (s : State) (t : List Driver) (x y : SurpriseMove) → WayMove q s.core.rack t x y → Way q s.core.rack t (surprise_lifted s x) (surprise_lifted (with_rack t s) y)
-lift_surprise q s t x y h =
-    record {
-      kin = h.kin;
-      own = ap (λ (c : Core). c.rack) (remove_core (Operation.Surprising x.frame) x.beside (with_core x.core s)) ∙ h.own;
-      agrees =
-          λ e. ap (surprise_lifted (with_rack t s)) (h.agrees e)
-          ∙ ap (λ (u : State). record { label = x.label; state = u }) (remove_over (Operation.Surprising x.frame) x.beside (with_core x.core s) (rack_by q t));
-      same = λ e. ap (λ (m : SurpriseMove). (surprise_lifted (with_rack t s) m).state) (h.same e) ∙ remove_over (Operation.Surprising x.frame) x.beside (with_core x.core s) (rack_by q t);
-    }
-
-lift_finish : (q : Option Query) (s : State) (t : List Driver) (x y : FinishMove) → WayMove q s.core.rack t x y → Way q s.core.rack t (finish_lifted s x) (finish_lifted (with_rack t s) y)
-lift_finish q s t x y h =
-    record {
-      kin = h.kin;
-      own = ap (λ (c : Core). c.rack) (remove_core (Operation.Finishing x.frame) x.beside (with_core x.core s)) ∙ h.own;
-      agrees =
-          λ e. ap (finish_lifted (with_rack t s)) (h.agrees e)
-          ∙ ap (λ (u : State). record { label = x.label; state = u }) (remove_over (Operation.Finishing x.frame) x.beside (with_core x.core s) (rack_by q t));
-      same = λ e. ap (λ (m : FinishMove). (finish_lifted (with_rack t s) m).state) (h.same e) ∙ remove_over (Operation.Finishing x.frame) x.beside (with_core x.core s) (rack_by q t);
+          λ e. ap (job_lifted (with_rack t s)) (h.agrees e)
+          ∙ ap (λ (u : State). record { label = x.label; state = u }) (job_over x.frame x.beside (with_core x.core s) (rack_by q t));
+      same = λ e. ap (λ (m : JobMove). (job_lifted (with_rack t s) m).state) (h.same e) ∙ job_over x.frame x.beside (with_core x.core s) (rack_by q t);
     }
 
 -- All of it ------------------------------------------------------------------------------
@@ -332,33 +284,12 @@ lift_finish q s t x y h =
 abbrev pub Same : Option Query → State → (State → Option (Doing Step)) → Type 0
 Same q s step = (t : List Driver) → faces t ≡ faces s.core.rack → Alike (Way q s.core.rack t) (step s) (step (with_rack t s))
 
--- a move of a removal is what is done
-as_done : {M : Type 0} (f : M → Step) (o : Option M) → option_map (doing_map f) (done o) ≡ option_map (λ m. Does (f m)) o
-as_done f None = refl
-as_done f (Some m) = refl
-
-way_operation : (s : State) (o : Operation) (waits : Bool) → Same (operation_query s.core s.handles o waits) s (λ (x : State). operation_next x o waits)
-way_operation s o true t e = rests
-way_operation s (Operation.Rebalancing r) false t e =
-    let q : Option Query = rebalance_query r.stage (first_node s.core.nodes r.todo) in
-    alike_map (WayMove q s.core.rack t) (Way q s.core.rack t) (rebalance_lifted s) (rebalance_lifted (with_rack t s)) (lift_rebalance q s t) (way_rebalanced s.core r t e)
-way_operation s (Operation.Removing o) false t e =
-    let q : Option Query = removal_query s.handles o.stage (first_node s.core.nodes o.todo) in
-    subst (λ (y : Option (Doing Step)). Alike (Way q s.core.rack t) (option_map (λ m. Does (removal_lifted s m)) (removed s.core o s.handles)) y) (as_done (removal_lifted (with_rack t s)) (removed (set_rack t s.core) o s.handles))
-    (subst (λ (x : Option (Doing Step)). Alike (Way q s.core.rack t) x (option_map (doing_map (removal_lifted (with_rack t s))) (done (removed (set_rack t s.core) o s.handles)))) (as_done (removal_lifted s) (removed s.core o s.handles))
-    (alike_map (WayMove q s.core.rack t) (Way q s.core.rack t) (removal_lifted s) (removal_lifted (with_rack t s)) (lift_removal q s t) (way_removed s.core o s.handles t e)))
-way_operation s (Operation.Surprising o) false t e =
-    let q : Option Query = surprise_query s.core s.handles o o.stage (first_node s.core.nodes o.todo) in
-    let here : Bool = is_target_in_world s o in
-    subst (λ (y : Option (Doing Step)). Alike (Way q s.core.rack t) (option_map (λ m. Does (surprise_lifted s m)) (surprised s.core o here s.handles)) y) (as_done (surprise_lifted (with_rack t s)) (surprised (set_rack t s.core) o here s.handles))
-    (subst (λ (x : Option (Doing Step)). Alike (Way q s.core.rack t) x (option_map (doing_map (surprise_lifted (with_rack t s))) (done (surprised (set_rack t s.core) o here s.handles)))) (as_done (surprise_lifted s) (surprised s.core o here s.handles))
-    (alike_map (WayMove q s.core.rack t) (Way q s.core.rack t) (surprise_lifted s) (surprise_lifted (with_rack t s)) (lift_surprise q s t) (way_surprised s.core o here s.handles t e)))
-way_operation s (Operation.Finishing f) false t e =
-    let q : Option Query = finish_query s.core s.handles f.stage (first_node s.core.nodes f.todo) in
-    let here : Bool = is_current_in_world s f in
-    subst (λ (y : Option (Doing Step)). Alike (Way q s.core.rack t) (option_map (λ m. Does (finish_lifted s m)) (finished s.core f here s.handles)) y) (as_done (finish_lifted (with_rack t s)) (finished (set_rack t s.core) f here s.handles))
-    (subst (λ (x : Option (Doing Step)). Alike (Way q s.core.rack t) x (option_map (doing_map (finish_lifted (with_rack t s))) (done (finished (set_rack t s.core) f here s.handles)))) (as_done (finish_lifted s) (finished s.core f here s.handles))
-    (alike_map (WayMove q s.core.rack t) (Way q s.core.rack t) (finish_lifted s) (finish_lifted (with_rack t s)) (lift_finish q s t) (way_finished s.core f here s.handles t e)))
+way_operation : (s : State) (j : Job) (waits : Bool) → Same (operation_query s.core s.handles j waits) s (λ (x : State). operation_next x j waits)
+way_operation s j true t e = rests
+way_operation s j false t e =
+    let q : Option Query = job_query s.core s.handles j j.walk (first_node s.core.nodes j.todo) in
+    alike_map (WayMove q s.core.rack t) (Way q s.core.rack t) (job_lifted s) (job_lifted (with_rack t s)) (lift_job q s t)
+    (way_job s.core j (is_back s j (course_of j.kind)) s.handles j.walk (first_node s.core.nodes j.todo) t e)
 
 way_activity : (s : State) (a : Activity) (o : Option Node) → Same (activity_query a o) s (λ (x : State). activity_next x a o)
 way_activity s a None t e = rests
@@ -383,8 +314,8 @@ way_idle : (settings : Settings) (s : State) (o : Option Activity) → Same (idl
 way_idle settings s (Some a) t e = way_activity s a (node_at a.serial s.core.nodes) t e
 way_idle settings s None t e = way_task settings s (slice_get s.tasks 0) t e
 
-way_of : (settings : Settings) (s : State) (o : Option Operation) → Same (query_of s o) s (λ (x : State). next_of settings x o)
-way_of settings s (Some o) t e = way_operation s o (is_waiting (operation_walk o)) t e
+way_of : (settings : Settings) (s : State) (o : Option Job) → Same (query_of s o) s (λ (x : State). next_of settings x o)
+way_of settings s (Some j) t e = way_operation s j (is_waiting j.walk) t e
 way_of settings s None t e = way_idle settings s (find is_ready s.activities) t e
 
 -- what is next, with other books

@@ -11,9 +11,9 @@ use Rattle.pnp_model.specs.Removals.{refuses_unasked}
 use Rattle.pnp_model.specs.Surprises.{stays_behind}
 use Rattle.pnp_model.specs.Finishes.{node_of_ready}
 use Rattle.pnp_model.specs.Frames.{next_driver, first_node}
-use Rattle.pnp_model.specs.Records.{Node, Core, Handle, Walk, Phase, Activity, State, Operation, RebalanceStage, RemovalStage, Surprise, SurpriseStage, FinishStage}
+use Rattle.pnp_model.specs.Records.{Node, Core, Handle, Walk, Phase, Activity, State, Job, Course, Stage, course_of}
 use Rattle.pnp_model.specs.Records.Phase.{Adding, Searching, Starting, Removing, Due}
-use Rattle.pnp_model.specs.Machine.{is_waiting, is_ready, operation_walk}
+use Rattle.pnp_model.specs.Machine.{is_waiting, is_ready}
 
 pub record Query : Type 0 where
   pub what : AskWhat
@@ -45,62 +45,42 @@ abbrev pub at_query : Option Node → Walk → Option Query
 at_query None w = None
 at_query (Some node) w = walk_next node w
 
-abbrev pub rebalance_query : RebalanceStage → Option Node → Option Query
-rebalance_query (RebalanceStage.Asking w) o = at_query o w
-rebalance_query (RebalanceStage.TakingBack w) o = at_query o w
-rebalance_query (RebalanceStage.Cancelling w) o = at_query o w
-rebalance_query (RebalanceStage.Stopping w) o = at_query o w
-rebalance_query (RebalanceStage.Restarting w) o = at_query o w
-rebalance_query _ o = None
-
 -- does it refuse unasked?
 abbrev pub next_removal : Node → Bool → Option Query
 next_removal node true = None
 next_removal node false = walk_next node (walk_of Minor.QueryRemove)
 
-abbrev pub removal_query : List Handle → RemovalStage → Option Node → Option Query
-removal_query handles RemovalStage.Next None = None
-removal_query handles RemovalStage.Next (Some node) = next_removal node (refuses_unasked handles node)
-removal_query handles (RemovalStage.Asking w) o = at_query o w
-removal_query handles (RemovalStage.TakingBack w) o = at_query o w
-removal_query handles (RemovalStage.Cancelling w) o = at_query o w
-removal_query handles (RemovalStage.Removing w) o = at_query o w
-removal_query handles _ o = None
-
--- a device without drivers is asked nothing
+-- a device without drivers is asked nothing, and one with drivers at once
 abbrev pub stack_query : Node → List ℕ → Option Query
 stack_query node [] = None
-stack_query node (d ∷ ds) = walk_next node (walk_of Minor.Remove)
+stack_query node (d ∷ ds) = Some (query node (walk_of Minor.Remove))
 
 -- does it stay behind?
 abbrev pub next_surprise : Node → Bool → Option Query
 next_surprise node true = None
 next_surprise node false = stack_query node node.stack
 
-abbrev pub surprise_query : Core → List Handle → Surprise → SurpriseStage → Option Node → Option Query
-surprise_query c handles f SurpriseStage.Next None = None
-surprise_query c handles f SurpriseStage.Next (Some node) = next_surprise node (stays_behind c f handles node.serial)
-surprise_query c handles f (SurpriseStage.Telling w) o = at_query o w
-surprise_query c handles f (SurpriseStage.Removing w) o = at_query o w
-surprise_query c handles f _ o = None
-
 -- a ready device has drivers, which are asked at once
 abbrev pub ready_query : Option Node → Option Query
 ready_query None = None
 ready_query (Some node) = Some (query node (walk_of Minor.Remove))
 
-abbrev pub finish_query : Core → List Handle → FinishStage → Option Node → Option Query
-finish_query c handles FinishStage.Next o = ready_query (node_of_ready c.nodes (ready_device c handles))
-finish_query c handles (FinishStage.Removing w) o = at_query o w
-finish_query c handles _ o = None
+-- while no request is on its way, a device is asked where it is taken up
+abbrev pub acts_query : Core → List Handle → Job → Course → Stage → Option Node → Option Query
+acts_query c handles j Course.Removing Stage.Next (Some node) = next_removal node (refuses_unasked handles node)
+acts_query c handles j Course.Surprising Stage.Next (Some node) =
+    next_surprise node (stays_behind c j handles node.serial)
+acts_query c handles j Course.Finishing Stage.Next n = ready_query (node_of_ready c.nodes (ready_device c handles))
+acts_query c handles j _ _ n = None
+
+abbrev pub job_query : Core → List Handle → Job → Option Walk → Option Node → Option Query
+job_query c handles j None n = acts_query c handles j (course_of j.kind) j.stage n
+job_query c handles j (Some w) n = at_query n w
 
 -- does its walk wait?
-abbrev pub operation_query : Core → List Handle → Operation → Bool → Option Query
-operation_query c handles o true = None
-operation_query c handles (Operation.Rebalancing r) false = rebalance_query r.stage (first_node c.nodes r.todo)
-operation_query c handles (Operation.Removing o) false = removal_query handles o.stage (first_node c.nodes o.todo)
-operation_query c handles (Operation.Surprising o) false = surprise_query c handles o o.stage (first_node c.nodes o.todo)
-operation_query c handles (Operation.Finishing f) false = finish_query c handles f.stage (first_node c.nodes f.todo)
+abbrev pub operation_query : Core → List Handle → Job → Bool → Option Query
+operation_query c handles j true = None
+operation_query c handles j false = job_query c handles j j.walk (first_node c.nodes j.todo)
 
 abbrev pub activity_query : Activity → Option Node → Option Query
 activity_query a None = None
@@ -110,8 +90,8 @@ abbrev pub idle_query : List Node → Option Activity → Option Query
 idle_query nodes (Some a) = activity_query a (node_at a.serial nodes)
 idle_query nodes None = None
 
-abbrev pub query_of : State → Option Operation → Option Query
-query_of s (Some o) = operation_query s.core s.handles o (is_waiting (operation_walk o))
+abbrev pub query_of : State → Option Job → Option Query
+query_of s (Some j) = operation_query s.core s.handles j (is_waiting j.walk)
 query_of s None = idle_query s.core.nodes (find is_ready s.activities)
 
 abbrev pub next_query : State → Option Query

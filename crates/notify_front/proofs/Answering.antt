@@ -10,7 +10,7 @@ use Rattle.pnp_labels.specs.declared.label.Label.{Label}
 use Rattle.pnp_labels.specs.declared.label.Reason.{Reason}
 use Rattle.pnp_model.specs.Cores.{node_at, serials_of}
 use Rattle.pnp_model.specs.Keyed.{put_before, without_first}
-use Rattle.pnp_model.specs.Records.{Node, Operation}
+use Rattle.pnp_model.specs.Records.{Node, Job}
 use Rattle.pnp_model.specs.States.{node_of}
 use Rattle.pnp_model.specs.Tests.{is_started}
 use Rattle.devnode_tree.specs.Trees.{Ascends}
@@ -68,7 +68,7 @@ found_of path k nodes h = by_found (node_of path nodes) refl h
     by_found None e h = absurd (cc)
     by_found (Some n) e h = record { node = n; is = e; own = cc }
 
-none_if : (o : Option Operation) → is_some o ≡ false → o ≡ None
+none_if : (o : Option Job) → is_some o ≡ false → o ≡ None
 none_if None e = refl
 none_if (Some o) e = absurd (cc)
 

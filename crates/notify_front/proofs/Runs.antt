@@ -1,7 +1,7 @@
 -- The front's runs are runs of the machine.
 use Rattle.std.proofs.Common.{◌≡◌, Bool, true, false, List, [], ◌∷◌, Option, Some, None, refl, sym, ap, subst, reverse}
 use Rattle.std.specs.Prelude.{option_map}
-use Rattle.pnp_model.specs.Records.{Node, State, Step, Settings, Operation, Doing, doing_map, Beginning}
+use Rattle.pnp_model.specs.Records.{Node, State, Step, Settings, Job, Doing, doing_map, Beginning}
 use Rattle.pnp_model.specs.Records.Doing.{Does, Searches}
 use Rattle.pnp_model.specs.Cores.{node_at}
 use Rattle.pnp_model.specs.States.{node_of}
@@ -200,7 +200,7 @@ watch_up : (f : Front) (client : Text) (node : Node) (agrees b : Bool) → Besid
 watch_up f client node agrees false = record { state = refl; hand = refl }
 watch_up f client node agrees true = watch_new f client node agrees _
 
-watch_idle : (f : Front) (client : Text) (node : Node) (agrees : Bool) (o : Option Operation) → Beside f (fr.watch_idle f client node agrees o)
+watch_idle : (f : Front) (client : Text) (node : Node) (agrees : Bool) (o : Option Job) → Beside f (fr.watch_idle f client node agrees o)
 watch_idle f client node agrees (Some o) = record { state = refl; hand = refl }
 watch_idle f client node agrees None = watch_up f client node agrees (is_started node.state)
 
@@ -212,7 +212,7 @@ unwatch_old : (f : Front) (client : Text) (node : Node) (o : Option Registration
 unwatch_old f client node None = record { state = refl; hand = refl }
 unwatch_old f client node (Some r) = record { state = refl; hand = refl }
 
-unwatch_idle : (f : Front) (client : Text) (node : Node) (o : Option Operation) → Beside f (fr.unwatch_idle f client node o)
+unwatch_idle : (f : Front) (client : Text) (node : Node) (o : Option Job) → Beside f (fr.unwatch_idle f client node o)
 unwatch_idle f client node (Some o) = record { state = refl; hand = refl }
 unwatch_idle f client node None = unwatch_old f client node _
 

@@ -3,7 +3,7 @@ use Rattle.std.proofs.Common.{◌≡◌, inl, inr, Bool, true, false, List, [], 
 use Rattle.std.specs.Prelude.{map}
 use Rattle.std.proofs.lemmas.Grind.{reverse_onto}
 use Rattle.std.proofs.lemmas.List.{map-append}
-use Rattle.pnp_model.specs.Records.{Driver, State, Step, Settings, Operation, Beginning}
+use Rattle.pnp_model.specs.Records.{Driver, State, Step, Settings, Job, Beginning}
 use Rattle.pnp_model.specs.States.{node_of}
 use Rattle.pnp_model.specs.Machine as ma
 use Rattle.pnp_model.specs.Runs.{Entry, Run, opening}
@@ -32,7 +32,7 @@ use Rattle.notify_front.proofs.Runs.{Fits, IsCalm, IsReady, IsQuietFront, Part, 
 
 -- some operation runs
 abbrev pub Works : State → Type 0
-Works s = (o : Operation) × (s.operation ≡ Some o)
+Works s = (o : Job) × (s.operation ≡ Some o)
 
 abbrev pub IsMore : List Registration → Type 0
 IsMore [] = ⊥

@@ -11,7 +11,7 @@ use Rattle.pnp_model.specs.States.{drop_task, node_of}
 use Rattle.pnp_model.specs.Events.{happens}
 use Rattle.pnp_model.specs.Machine.{next, due}
 use Rattle.pnp_model.specs.Runs.{Entry, printed}
-use Rattle.pnp_model.specs.Records.{Node, State, Step, Settings, Operation, Found, Doing, doing_map, Beginning}
+use Rattle.pnp_model.specs.Records.{Node, State, Step, Settings, Job, Found, Doing, doing_map, Beginning}
 use Rattle.pnp_model.specs.Records.Doing.{Does, Searches}
 use Rattle.pnp_labels.specs.Texts.{Text}
 use Rattle.pnp_labels.specs.declared.event.Event.{Event}
@@ -229,7 +229,7 @@ abbrev pub watch_up : Front → Text → Node → Bool → Bool → Answered
 watch_up f client node agrees false = refuses EventWord.Watch Reason.NotStarted f
 watch_up f client node agrees true = watch_new f client node agrees (list_any (is_of client node.serial) f.registrations)
 
-abbrev pub watch_idle : Front → Text → Node → Bool → Option Operation → Answered
+abbrev pub watch_idle : Front → Text → Node → Bool → Option Job → Answered
 watch_idle f client node agrees (Some o) = refuses EventWord.Watch Reason.Busy f
 watch_idle f client node agrees None = watch_up f client node agrees (is_started node.state)
 
@@ -242,7 +242,7 @@ unwatch_old f client node None = refuses EventWord.Unwatch Reason.NoWatch f
 unwatch_old f client node (Some r) =
     record { label = Label.Did (Deed.Unwatched client node.path); front = without r f }
 
-abbrev pub unwatch_idle : Front → Text → Node → Option Operation → Answered
+abbrev pub unwatch_idle : Front → Text → Node → Option Job → Answered
 unwatch_idle f client node (Some o) = refuses EventWord.Unwatch Reason.Busy f
 unwatch_idle f client node None = unwatch_old f client node (find (is_of client node.serial) f.registrations)
 

@@ -10,13 +10,13 @@ use Rattle.pnp_model.specs.Laws.{HoldsWhole}
 use Rattle.pnp_model.specs.Cores.{node_at}
 use Rattle.pnp_model.specs.Trees.{children, is_child, hangs_on}
 use Rattle.pnp_model.specs.Frames.{first_node}
-use Rattle.pnp_model.specs.Records.{Node, Core, State, Operation}
-use Rattle.pnp_laws.specs.Kept.{Ascending, Each, Within, OperationFits, is_calm, at_head, is_removable, settling_state, emptied_state}
+use Rattle.pnp_model.specs.Records.{Node, Core, State, Job, Course, course_of}
+use Rattle.pnp_laws.specs.Kept.{Ascending, Each, Within, JobFits, OperationFits, is_calm, at_head, is_removable, settling_state, emptied_state}
 use Rattle.pnp_laws.proofs.Lists.{HeadIs, head_found, head_has}
 use Rattle.pnp_laws.proofs.Lookups.{none_below, found_self, own_serial}
 use Rattle.pnp_laws.proofs.TreeMoves.{Childless}
 use Rattle.pnp_laws.proofs.Finishes.{head_childless}
-use Rattle.pnp_laws.proofs.Standing.{Tree, Finishes, Goes, HeadAlone, StageKept, Kept}
+use Rattle.pnp_laws.proofs.Standing.{Tree, Finishes, Goes, HeadAlone, JobKept, StageKept, Kept, kept_by}
 use Rattle.pnp_laws.proofs.Truths.{or_left}
 use Rattle.operation_frame.specs.Nodes.{IsStripped}
 
@@ -25,9 +25,15 @@ pub own_there : (nodes : List Node) (k serial : ℕ) (node : Node) → Some node
 own_there nodes k serial node at own = ap (λ j. is_some (node_at j nodes)) own ∙ ap is_some (found_self k nodes node (sym at))
 
 -- what a state of a run keeps of the operation that runs
-pub running : (s : State) (o : Operation) → Kept s → s.operation ≡ Some o → StageKept (Some o) s.core × OperationFits (Some o) s.core.nodes
+pub running : (s : State) (o : Job) → Kept s → s.operation ≡ Some o → StageKept (Some o) s.core × OperationFits (Some o) s.core.nodes
 running s o kept is =
-    (subst (λ (x : Option Operation). StageKept x s.core) is kept.stands.stage, subst (λ (x : Option Operation). OperationFits x s.core.nodes) is kept.good.fits)
+    (subst (λ (x : Option Job). StageKept x s.core) is kept.stands.stage, subst (λ (x : Option Job). OperationFits x s.core.nodes) is kept.good.fits)
+
+-- by how it goes
+pub runs_as : (course : Course) (s : State) (o : Job) → course_of o.kind ≡ course → Kept s → s.operation ≡ Some o → JobKept course o s.core × JobFits course o s.core.nodes
+runs_as course s o goes kept is =
+    let runs = running s o kept is in
+    (kept_by course o s.core goes runs.0, subst (λ (x : Course). JobFits x o s.core.nodes) goes runs.1)
 
 -- what is next is there
 pub first_there : (todo : List ℕ) (nodes : List Node) → Goes todo nodes → IsSome (first_node nodes todo)

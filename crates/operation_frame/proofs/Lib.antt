@@ -3,3 +3,4 @@ pub mod Queues
 pub mod Given
 pub mod Requests
 pub mod Ends
+pub mod Stepping

@@ -1,5 +1,5 @@
 -- What is known of the device that is next, and of its request, where a step of an operation is put together.
-use Rattle.std.proofs.Common.{◌≡◌, ℕ, Bool, List, [], Option, Some, None, IfSome, IfOk, Result, Ok, Err, OnErr, slice_get, sym, ap, ◌∙◌, subst}
+use Rattle.std.proofs.Common.{◌≡◌, ℕ, Bool, true, false, List, [], Option, Some, None, IfSome, IfOk, Result, Ok, Err, OnErr, slice_get, is_some, refl, sym, ap, ◌∙◌, subst}
 use Rattle.pnp_labels.specs.Texts.{Text}
 use Rattle.pnp_model.specs.Cores.{core_of, node_at, set_rack}
 use Rattle.pnp_model.specs.Frames.{first_node}
@@ -8,13 +8,18 @@ use Rattle.pnp_model.specs.Records.{Node, Core, Driver, Walk}
 use Rattle.pnp_laws.proofs.Lookups.{own_serial}
 use Rattle.devnode_tree.specs.Trees.{CanLeave}
 use Rattle.operation_frame.specs.Nodes.{PathIs, HoldsNothing, IsStripped}
-use Rattle.operation_frame.specs.Walks.{WalksFor}
+use Rattle.operation_frame.specs.Walks.{WalksFor, walk_if}
 use Rattle.operation_frame.specs.declared.walking.Walked.TheVariants.{Ended}
 use Rattle.operation_frame.proofs.Queues.{first_is}
 
 pub on_err : {T E : Type 0} (P : Type 0) (r : Result T E) → P → OnErr r P
 on_err P (Ok x) h = tt
 on_err P (Err e) h = h
+
+-- a request is on its way, at whatever driver
+pub walks_with : (b : Bool) (w w' : Walk) → is_some (walk_if b w) ≡ true → walk_if b w' ≡ Some w'
+walks_with true w w' h = refl
+walks_with false w w' h = absurd (cc)
 
 -- what stays where a request has ended
 module _ (x : Option Node) (rack rack' : List Driver) (w w' : Walk) (path : Text) (refused : Bool) (h : (around : Core) → WalksFor x (set_rack rack around) w (Ended path refused) (set_rack rack' around) w') where

@@ -8,4 +8,4 @@ mod walking;
 
 pub use leaving::{Finish, Settled, finish_of, has_drivers, leave, remain};
 pub use queue::SerialQueue;
-pub use walking::{Asked, Walked, end_walk, pass_on, strip};
+pub use walking::{Asked, Walked, end_request, end_walk, pass_on};

@@ -5,7 +5,8 @@ ghost use Rattle.pnp_labels.specs.declared.states.DevState.TheVariants.{NoStack}
 ghost use Rattle.devnode_tree.specs.Trees.{changed};
 ghost use Rattle.trial_journal.specs.ByKind as ByKind;
 ghost use Rattle.device_holdings.specs.Mirrors.{IsMirrored, KeepsMirror};
-ghost use Rattle.operation_frame.specs.Walks.{WalksFor, EndsFor};
+ghost use Rattle.operation_frame.specs.Nodes.{PathIs};
+ghost use Rattle.operation_frame.specs.Walks.{WalksFor, EndsFor, EndedFor};
 
 use device_holdings::release;
 use device_ids::{Text, WantOfMemory};
@@ -84,7 +85,7 @@ pub fn end_walk(minor: Minor, refused: bool, path: Text, serial: u64, tree: &mut
 /// tells its state. Condition: the arbiters hold just what is reserved and what devices hold; this is kept. It takes no
 /// memory. Cost: the logarithm of the number of nodes, the number of relations, and for each resource that it held the
 /// pairs of its kind.
-pub fn strip(
+fn strip(
     path: Text,
     serial: u64,
     tree: &mut Tree,
@@ -102,5 +103,29 @@ pub fn strip(
     Label::State {
         path,
         state: DevState::NoStack,
+    }
+}
+
+/// A request ends, and the line tells the state after it. By the one that removes the drivers the device also loses its
+/// holdings and its relations. Conditions: the path is that of the device, which is there; the arbiters hold just what is
+/// reserved and what devices hold, and this is kept. It takes no memory. Cost: the logarithm of the number of nodes; where
+/// drivers are gone also the number of relations, and for each resource that it held the pairs of its kind.
+pub fn end_request(
+    minor: Minor,
+    refused: bool,
+    device: Asked,
+    tree: &mut Tree,
+    relations: &mut Relations,
+    arbiters: &mut Arbiters,
+) -> Label
+    requires path { PathIs (node_at device.serial tree.old.nodes) device.path }
+    requires mirrored { IsMirrored tree.old.nodes arbiters.old }
+    ensures ended { EndedFor (node_at device.serial tree.old.nodes) minor refused tree.old.nodes relations.old result tree.new.nodes relations.new }
+    ensures next { tree.new.next ≡ tree.old.next }
+    ensures mirrors { KeepsMirror tree.old.nodes arbiters.old tree.new.nodes arbiters.new }
+{
+    match minor {
+        Minor::Remove => strip(device.path, device.serial, tree, relations, arbiters),
+        _ => end_walk(minor, refused, device.path, device.serial, tree),
     }
 }

@@ -7,13 +7,15 @@ use Rattle.pnp_model.specs.Cores.{node_at}
 use Rattle.pnp_model.specs.Diagram.{Row}
 use Rattle.pnp_model.specs.Frames.{first_node}
 use Rattle.pnp_model.specs.Laws.{is_up_to_now}
-use Rattle.pnp_model.specs.Records.{Node, Operation, Phase, Rebalance, RebalanceStage, Removal, RemovalStage, State, Surprise, SurpriseStage, Finish, FinishStage, Walk}
+use Rattle.pnp_model.specs.Records.{Course, Job, Node, Phase, Stage, State, Walk, course_of}
 use Rattle.pnp_model.specs.Tests.{is_told}
 use Rattle.pnp_model.specs.Walks.{may_fail, state_after}
-use Rattle.pnp_laws.specs.Effects.{Request, finish_leaves, finish_minor, operation_minor, rebalance_minor, removal_leaves, removal_minor, surprise_leaves, surprise_minor, to_leave, todo_of}
-use Rattle.pnp_laws.specs.Kept.{IsGood, OperationFits, RebalanceKeeps, RemovalKeeps, SurpriseKeeps, FinishKeeps, is_stripped_next}
+use Rattle.pnp_laws.specs.Effects.{Request, leaving_in, to_leave}
+use Rattle.pnp_laws.specs.Kept.{FinishKeeps, IsGood, JobFits, OneIsNext, OperationFits, RebalanceAsks, RebalanceKeeps, RemovalAsks, RemovalKeeps, SurpriseEnds, SurpriseKeeps, is_stripped_next}
+use Rattle.pnp_laws.specs.Kept as kept
 use Rattle.pnp_laws.proofs.EffectViews.{acting_fits}
 use Rattle.pnp_laws.proofs.Finishing.{head_bare, head_stripped, strips}
+use Rattle.pnp_laws.proofs.FitsBy.{asked_is}
 use Rattle.pnp_laws.proofs.FinishingSteps.{head_emptied, head_taken}
 use Rattle.pnp_laws.proofs.Lists.{HeadIs, head_found, head_has}
 use Rattle.pnp_laws.proofs.RebalanceSteps.{head_pending, head_started, head_stopped, head_stopping}
@@ -65,70 +67,78 @@ removes : (minor : Minor) (x : DevState) → Some Minor.Remove ≡ Some minor �
 removes minor x is row = asked Minor.Remove minor is x (record { rows = λ bad. row; up = λ other. absurd (other refl) })
 
 module _ (nodes : List Node) (node : Node) (minor : Minor) (at : node_at node.serial nodes ≡ Some node) where
-  by_rebalance : (r : Rebalance) (stage : RebalanceStage) → RebalanceKeeps r stage nodes → HeadIs node.serial r.todo → rebalance_minor stage ≡ Some minor → Asked minor node.state
-  by_rebalance r (RebalanceStage.Asking w) keeps head is =
+  by_rebalance : (r : Job) (stage : Stage) → RebalanceKeeps r stage nodes → HeadIs node.serial r.todo → kept.asked_in Course.Rebalancing stage ≡ Some minor → Asked minor node.state
+  by_rebalance r Stage.Asking keeps head is =
       asked_in Minor.QueryStop minor is node.state Started (head_started r.todo r.agreed node.serial node.state (head_has node.serial r.todo head) (keeps.each node.serial node at)) refl query_stop_rows
-  by_rebalance r (RebalanceStage.TakingBack w) keeps head is =
+  by_rebalance r Stage.TakingBack keeps head is =
       asked_in Minor.CancelStop minor is node.state Started (head_started r.todo r.agreed node.serial node.state (head_has node.serial r.todo head) (keeps.each node.serial node at)) refl (λ bad. Row.cancel_stop_refused)
-  by_rebalance r (RebalanceStage.Cancelling w) keeps head is =
+  by_rebalance r Stage.Cancelling keeps head is =
       asked_in Minor.CancelStop minor is node.state StopPending (head_pending r.todo node.serial node.state (head_has node.serial r.todo head) (keeps.each node.serial node at)) refl (λ bad. Row.cancel_stop)
-  by_rebalance r (RebalanceStage.Stopping w) keeps head is =
+  by_rebalance r Stage.Stopping keeps head is =
       asked_in Minor.Stop minor is node.state StopPending (head_stopping r.todo r.agreed node.serial node.state (head_has node.serial r.todo head) (keeps.each node.serial node at)) refl (λ bad. Row.stop)
-  by_rebalance r (RebalanceStage.Restarting w) keeps head is =
+  by_rebalance r Stage.Restarting keeps head is =
       asked_in Minor.Start minor is node.state Stopped (head_stopped r.todo node.serial node.state (head_has node.serial r.todo head) (keeps.each node.serial node at)) refl restart_rows
   by_rebalance r _ keeps head is = absurd (cc)
 
-  by_removal : (o : Removal) (stage : RemovalStage) → RemovalKeeps o stage nodes → HeadIs node.serial o.todo → removal_minor stage ≡ Some minor → Asked minor node.state
-  by_removal o (RemovalStage.Asking w) keeps head is =
+  by_removal : (o : Job) (stage : Stage) → RemovalKeeps o stage nodes → HeadIs node.serial o.todo → kept.asked_in Course.Removing stage ≡ Some minor → Asked minor node.state
+  by_removal o Stage.Asking keeps head is =
       asked_in Minor.QueryRemove minor is node.state Started (head_querying o.todo o.agreed o.set node.serial node.state head (keeps.each node.serial node at)) refl query_remove_rows
-  by_removal o (RemovalStage.TakingBack w) keeps head is =
+  by_removal o Stage.TakingBack keeps head is =
       asked_in Minor.CancelRemove minor is node.state Started (head_refusing o.todo o.agreed node.serial node.state head (keeps.each node.serial node at)) refl (λ bad. Row.cancel_remove_refused)
-  by_removal o (RemovalStage.Cancelling w) keeps head is =
+  by_removal o Stage.Cancelling keeps head is =
       asked_in Minor.CancelRemove minor is node.state RemovePending (head_restoring o.todo node.serial node.state (head_has node.serial o.todo head) (keeps.each node.serial node at)) refl (λ bad. Row.cancel_remove)
-  by_removal o (RemovalStage.Removing w) keeps head is = removes minor node.state is (strips node.state (head_stripped o.todo node.serial node.state head (keeps.each node.serial node at)))
+  by_removal o Stage.Removing keeps head is = removes minor node.state is (strips node.state (head_stripped o.todo node.serial node.state head (keeps.each node.serial node at)))
   by_removal o _ keeps head is = absurd (cc)
 
-  by_surprise : (o : Surprise) (stage : SurpriseStage) → SurpriseKeeps o stage nodes → HeadIs node.serial o.todo → surprise_minor stage ≡ Some minor → Asked minor node.state
-  by_surprise o (SurpriseStage.Telling w) keeps head is =
+  by_surprise : (o : Job) (stage : Stage) → SurpriseKeeps o stage nodes → HeadIs node.serial o.todo → kept.asked_in Course.Surprising stage ≡ Some minor → Asked minor node.state
+  by_surprise o Stage.Telling keeps head is =
       let told = head_told o.todo o.set node.serial node.state (head_has node.serial o.todo head) (keeps.each node.serial node at) in
       asked Minor.SurpriseRemoval minor is node.state (record { rows = λ bad. (told_or node.state told).0; up = λ other. told_up node.state told })
-  by_surprise o (SurpriseStage.Removing w) keeps head is = removes minor node.state is (strips node.state (head_stripped o.todo node.serial node.state head (keeps.each node.serial node at)))
+  by_surprise o Stage.Removing keeps head is = removes minor node.state is (strips node.state (head_stripped o.todo node.serial node.state head (keeps.each node.serial node at)))
   by_surprise o _ keeps head is = absurd (cc)
 
-  by_finish : (f : Finish) (stage : FinishStage) → FinishKeeps f stage nodes → HeadIs node.serial f.todo → finish_minor stage ≡ Some minor → Asked minor node.state
-  by_finish f (FinishStage.Removing w) keeps head is =
+  by_finish : (f : Job) (stage : Stage) → FinishKeeps f stage nodes → HeadIs node.serial f.todo → kept.asked_in Course.Finishing stage ≡ Some minor → Asked minor node.state
+  by_finish f Stage.Removing keeps head is =
       let told = head_taken f.todo node.serial node.state head (keeps.each node.serial node at) in
       removes minor node.state is (strips node.state (ap is_stripped_next told))
   by_finish f _ keeps head is = absurd (cc)
 
-pub operation_asks : (o : Operation) (nodes : List Node) (node : Node) (minor : Minor) → OperationFits (Some o) nodes → first_node nodes (todo_of o) ≡ Some node → operation_minor o ≡ Some minor → Asked minor node.state
-operation_asks (Operation.Rebalancing r) nodes node minor fits first is = let h = head_found nodes r.todo node first in by_rebalance nodes node minor h.1 r r.stage fits h.0 is
-operation_asks (Operation.Removing o) nodes node minor fits first is = let h = head_found nodes o.todo node first in by_removal nodes node minor h.1 o o.stage fits h.0 is
-operation_asks (Operation.Surprising o) nodes node minor fits first is = let h = head_found nodes o.todo node first in by_surprise nodes node minor h.1 o o.stage fits h.0 is
-operation_asks (Operation.Finishing f) nodes node minor fits first is = let h = head_found nodes f.todo node first in by_finish nodes node minor h.1 f f.stage fits h.0 is
+asks_by : (course : Course) (o : Job) (nodes : List Node) (node : Node) (minor : Minor) → JobFits course o nodes → first_node nodes o.todo ≡ Some node → kept.asked_in course o.stage ≡ Some minor → Asked minor node.state
+asks_by Course.Rebalancing r nodes node minor fits first is = let h = head_found nodes r.todo node first in by_rebalance nodes node minor h.1 r r.stage fits h.0 is
+asks_by Course.Removing o nodes node minor fits first is = let h = head_found nodes o.todo node first in by_removal nodes node minor h.1 o o.stage fits h.0 is
+asks_by Course.Surprising o nodes node minor fits first is = let h = head_found nodes o.todo node first in by_surprise nodes node minor h.1 o o.stage fits h.0 is
+asks_by Course.Finishing f nodes node minor fits first is = let h = head_found nodes f.todo node first in by_finish nodes node minor h.1 f f.stage fits h.0 is
+
+pub operation_asks : (o : Job) (nodes : List Node) (node : Node) (w : Walk) → OperationFits (Some o) nodes → first_node nodes o.todo ≡ Some node → o.walk ≡ Some w → Asked w.minor node.state
+operation_asks o nodes node w fits first walk = asks_by (course_of o.kind) o nodes node w.minor fits first (asked_is o nodes w fits walk)
 
 -- a request that is made of a device fits its state
 pub request_rows : (s : State) → IsGood s → (node : Node) → node_at node.serial s.core.nodes ≡ Some node → (minor : Minor) (w : Walk) → Request s node minor w → Rows minor node.state
 request_rows s good node at _ _ (Request.starts w acts) = rows_as Minor.Start NotStarted node.state (acting_fits s node.serial node (Phase.Starting w) at acts good).1 start_rows
 request_rows s good node at _ _ (Request.undoes w acts) = rows_as Minor.Remove NotStarted node.state (acting_fits s node.serial node (Phase.Removing w) at acts good).1 (λ bad. Row.remove)
-request_rows s good node at _ _ (Request.operates minor w asks) =
-    (operation_asks asks.operation s.core.nodes node minor (running_good s asks.operation asks.runs good).fits asks.first asks.minor_is).rows
+request_rows s good node at _ _ (Request.operates w asks) =
+    (operation_asks asks.operation s.core.nodes node w (running_good s asks.operation asks.runs good).fits asks.first asks.walk).rows
 
 -- who may leave has no drivers
-pub left_bare : (o : Operation) (nodes : List Node) (node : Node) → OperationFits (Some o) nodes → first_node nodes (to_leave o) ≡ Some node → node.state ≡ NoStack
-left_bare (Operation.Removing o) nodes node fits first = by_stage o.stage fits first
-  where
-    by_stage : (stage : RemovalStage) → RemovalKeeps o stage nodes → first_node nodes (removal_leaves stage o.todo) ≡ Some node → node.state ≡ NoStack
-    by_stage RemovalStage.Settling keeps head = let h = head_found nodes o.todo node head in head_bare o.todo node.serial node.state h.0 (keeps.each node.serial node h.1)
-    by_stage _ keeps head = absurd (cc)
-left_bare (Operation.Surprising o) nodes node fits first = by_stage o.stage fits first
-  where
-    by_stage : (stage : SurpriseStage) → SurpriseKeeps o stage nodes → first_node nodes (surprise_leaves stage o.todo) ≡ Some node → node.state ≡ NoStack
-    by_stage SurpriseStage.Settling keeps head = let h = head_found nodes o.todo node head in head_bare o.todo node.serial node.state h.0 (keeps.each node.serial node h.1)
-    by_stage _ keeps head = absurd (cc)
-left_bare (Operation.Finishing f) nodes node fits first = by_stage f.stage fits first
-  where
-    by_stage : (stage : FinishStage) → FinishKeeps f stage nodes → first_node nodes (finish_leaves stage f.todo) ≡ Some node → node.state ≡ NoStack
-    by_stage FinishStage.Leaving keeps head = let h = head_found nodes f.todo node head in head_emptied f.todo node.serial node.state h.0 (keeps.each node.serial node h.1)
-    by_stage _ keeps head = absurd (cc)
-left_bare (Operation.Rebalancing r) nodes node fits first = absurd (cc)
+leaves_by : (course : Course) (stage : Stage) (o : Job) (nodes : List Node) (node : Node) → o.stage ≡ stage → JobFits course o nodes → first_node nodes (leaving_in stage o.todo) ≡ Some node → node.state ≡ NoStack
+leaves_by Course.Removing Stage.Settling o nodes node is fits first =
+    let keeps = subst (λ (x : Stage). RemovalKeeps o x nodes) is fits in
+    let h = head_found nodes o.todo node first in
+    head_bare o.todo node.serial node.state h.0 (keeps.each node.serial node h.1)
+leaves_by Course.Surprising Stage.Settling o nodes node is fits first =
+    let keeps = subst (λ (x : Stage). SurpriseKeeps o x nodes) is fits in
+    let h = head_found nodes o.todo node first in
+    head_bare o.todo node.serial node.state h.0 (keeps.each node.serial node h.1)
+leaves_by Course.Finishing Stage.Leaving f nodes node is fits first =
+    let keeps = subst (λ (x : Stage). FinishKeeps f x nodes) is fits in
+    let h = head_found nodes f.todo node first in
+    head_emptied f.todo node.serial node.state h.0 (keeps.each node.serial node h.1)
+leaves_by Course.Rebalancing Stage.Settling r nodes node is fits first = absurd (subst (λ (x : Stage). RebalanceAsks r x) is fits.asks)
+leaves_by Course.Rebalancing Stage.Leaving r nodes node is fits first = absurd (subst (λ (x : Stage). RebalanceAsks r x) is fits.asks)
+leaves_by Course.Removing Stage.Leaving o nodes node is fits first = absurd (subst (λ (x : Stage). RemovalAsks o x) is fits.asks)
+leaves_by Course.Surprising Stage.Leaving o nodes node is fits first = absurd (subst (λ (x : Stage). SurpriseEnds o x) is fits.ends)
+leaves_by Course.Finishing Stage.Settling f nodes node is fits first = absurd (subst (λ (x : Stage). OneIsNext f x) is fits.one)
+leaves_by course _ o nodes node is fits first = absurd (cc)
+
+pub left_bare : (o : Job) (nodes : List Node) (node : Node) → OperationFits (Some o) nodes → first_node nodes (to_leave o) ≡ Some node → node.state ≡ NoStack
+left_bare o nodes node fits first = leaves_by (course_of o.kind) o.stage o nodes node refl fits first

@@ -1,6 +1,6 @@
 -- Where a step prints the begin of an operation, that operation began.
-use Rattle.std.proofs.Common.{◌≡◌, inl, inr, List, Option, Some, None, ap, sym, subst}
-use Rattle.pnp_model.specs.Records.{Node, Driver, Operation, Rebalance, RebalanceStage, State, Step, Settings}
+use Rattle.std.proofs.Common.{◌≡◌, inl, inr, List, Option, Some, None, ap, sym, ◌∙◌, subst}
+use Rattle.pnp_model.specs.Records.{Node, Driver, State, Step, Settings, Course, Job, Stage, course_of}
 use Rattle.pnp_model.specs.Cores.{node_at}
 use Rattle.pnp_model.specs.Machine.{Steps}
 use Rattle.pnp_model.specs.Tasks.{begin}
@@ -11,23 +11,25 @@ use Rattle.pnp_labels.specs.declared.label.Label.{Label}
 use Rattle.pnp_labels.specs.declared.label.OpKind.{OpKind}
 use Rattle.pnp_laws.specs.Words.{IsBeside, IsWord, DuesFine}
 use Rattle.pnp_laws.specs.Effects.{begun}
-use Rattle.pnp_laws.specs.Kept.{IsGood, OperationFits, RebalanceAsks}
+use Rattle.pnp_laws.specs.Kept.{IsGood, OperationFits, RebalanceAsks, kind_by}
+use Rattle.pnp_laws.proofs.FitsBy.{fits_by}
 use Rattle.pnp_laws.specs.Reached.{IsReached}
 use Rattle.pnp_laws.proofs.EffectsOf.{effect_goes}
 use Rattle.pnp_laws.proofs.Reaching.{kept}
 use Rattle.pnp_laws.proofs.EventChanges.{beside_word, happens_outside}
 use Rattle.pnp_laws.proofs.Reached.{reached_is_good}
 use Rattle.pnp_laws.proofs.Courses.{Fine, Way, dues_effect, way_goes}
+use Rattle.pnp_model.specs.Walks.{after}
 
 -- in no reached state an activity owes problem 12
 reached_dues : (settings : Settings) (rack : List Driver) (s : State) → IsReached settings rack s → DuesFine s.activities
 reached_dues settings rack s reached =
     kept (λ (x : State). DuesFine x.activities) settings rack (λ old entry new before dues goes. dues_effect old new (effect_goes settings old entry new goes).activities dues) tt s reached
 
-stuck_plain : (s : State) → IsGood s → (r : Rebalance) → s.operation ≡ Some (Operation.Rebalancing r) → r.stage ≡ RebalanceStage.Stuck → r.wanted ≡ None
-stuck_plain s good r runs is =
-    let keeps = subst (λ (x : Option Operation). OperationFits x s.core.nodes) runs good.fits in
-    subst (λ (x : RebalanceStage). RebalanceAsks r x) is keeps.asks
+stuck_plain : (s : State) → IsGood s → (r : Job) → s.operation ≡ Some r → course_of r.kind ≡ Course.Rebalancing → r.stage ≡ Stage.Stuck → r.kind ≡ OpKind.Rebalance
+stuck_plain s good r runs course is =
+    let keeps = fits_by Course.Rebalancing r s.core.nodes course (subst (λ (x : Option Job). OperationFits x s.core.nodes) runs good.fits) in
+    keeps.kind ∙ ap kind_by (subst (λ (x : Stage). RebalanceAsks r x) is keeps.asks)
 
 -- nor does a change
 pub reached_fine : (settings : Settings) (rack : List Driver) (s : State) → IsReached settings rack s → Fine s

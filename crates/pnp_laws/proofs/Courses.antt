@@ -1,5 +1,5 @@
 -- What a step or an event does to the operation and prints of it, where no activity owes problem 12.
-use Rattle.std.proofs.Common.{ℕ, ◌≡◌, ◌⊎◌, inl, inr, Bool, List, [], ◌∷◌, Option, Some, None, refl, sym, ap, ◌∙◌, subst}
+use Rattle.std.proofs.Common.{ℕ, ◌≡◌, ◌⊎◌, inl, inr, List, [], ◌∷◌, Option, Some, None, refl, sym, ap, ◌∙◌, subst}
 use Rattle.pnp_labels.specs.Texts.{Text}
 use Rattle.pnp_labels.specs.declared.states.Problem.{Problem}
 use Rattle.pnp_labels.specs.declared.label.Label.{Label}
@@ -7,45 +7,42 @@ use Rattle.pnp_labels.specs.declared.label.OpKind.{OpKind}
 use Rattle.pnp_labels.specs.declared.label.OpEnd.{OpEnd}
 use Rattle.pnp_model.specs.Cores.{node_at}
 use Rattle.pnp_model.specs.Machine.{is_ready}
-use Rattle.pnp_model.specs.Records.{Node, Operation, Phase, Rebalance, RebalanceStage, Settings, State, Step}
+use Rattle.pnp_model.specs.Records.{Node, Phase, Settings, State, Step, Job, Stage, course_of, Course}
 use Rattle.pnp_model.specs.Runs.{Entry, Goes, printed}
 use Rattle.pnp_model.specs.Runs.Entry.{Happens, Did, Declines}
 use Rattle.pnp_model.specs.Starts.{adding}
 use Rattle.pnp_model.specs.Tasks.{begin}
 use Rattle.pnp_laws.specs.Effects.{ActivityEffect, AnswerEffect, Conflicts, Enters, OpEffect, PhaseStep, Running, SameWork, begun}
-use Rattle.pnp_laws.specs.Words.{IsBeside, DueFine, DuesFine, EndsBy, is_removal, kind_of, path_of}
+use Rattle.pnp_laws.specs.Words.{IsBeside, DueFine, DuesFine, EndsBy, is_removal}
 use Rattle.pnp_laws.proofs.Phases.{phase_found, phases_after}
 use Rattle.pnp_laws.proofs.EffectsOf.{effect_goes}
 use Rattle.pnp_laws.proofs.EffectsOfOperations.{completed_work, turn_work}
 use Rattle.pnp_laws.proofs.EventChanges.{answered_fine, beside_word}
 use Rattle.pnp_model.specs.Events as ev
-use Rattle.pnp_model.specs.Rebalances as re
+use Rattle.pnp_model.specs.Walks.{after}
 
 -- no operation runs; or one begins, goes on, or ends
 pub data Way (s : State) (step : Step) : Type 0 where
   idles : s.operation ≡ None → step.state.operation ≡ None → IsBeside step.label → Way s step
   begins : (kind : OpKind) (node : Node) → s.operation ≡ None → node_at node.serial s.core.nodes ≡ Some node → step ≡ begin s kind node (begun s kind node) → Way s step
-  goes : (o p : Operation) → s.operation ≡ Some o → step.state.operation ≡ Some p → SameWork o p →
-      IsBeside step.label ⊎ ((kind_of o ≡ OpKind.Rebalance) × (step.label ≡ Label.Trouble (path_of o) Problem.NormalConflict)) → Way s step
-  ends : (o : Operation) (result : OpEnd) → s.operation ≡ Some o → step.state.operation ≡ None → step.label ≡ Label.End (kind_of o) (path_of o) result → EndsBy (is_removal o) result → Way s step
+  goes : (o p : Job) → s.operation ≡ Some o → step.state.operation ≡ Some p → SameWork o p →
+      IsBeside step.label ⊎ ((o.kind ≡ OpKind.Rebalance) × (step.label ≡ Label.Trouble o.path Problem.NormalConflict)) → Way s step
+  ends : (o : Job) (result : OpEnd) → s.operation ≡ Some o → step.state.operation ≡ None → step.label ≡ Label.End o.kind o.path result → EndsBy (is_removal (course_of o.kind)) result → Way s step
 
 -- no activity owes problem 12, and a change that found nothing owes no problem
 abbrev pub Fine : State → Type 0
-Fine s = DuesFine s.activities × ((r : Rebalance) → s.operation ≡ Some (Operation.Rebalancing r) → r.stage ≡ RebalanceStage.Stuck → r.wanted ≡ None)
+Fine s = DuesFine s.activities × ((r : Job) → s.operation ≡ Some r → course_of r.kind ≡ Course.Rebalancing → r.stage ≡ Stage.Stuck → r.kind ≡ OpKind.Rebalance)
 
-way_on : (s : State) (label : Label) (t : State) (o p : Operation) → Fine s → s.operation ≡ Some o → t.operation ≡ Some p → SameWork o p → IsBeside label ⊎ Conflicts o label → Way s (record { label = label; state = t })
+way_on : (s : State) (label : Label) (t : State) (o p : Job) → Fine s → s.operation ≡ Some o → t.operation ≡ Some p → SameWork o p → IsBeside label ⊎ Conflicts o label → Way s (record { label = label; state = t })
 way_on s label t o p fine runs now work (inl beside) = Way.goes o p runs now work (inl beside)
-way_on s label t (Operation.Rebalancing r) p fine runs now work (inr conflicts) = Way.goes (Operation.Rebalancing r) p runs now work (inr (ap re.kind_of (fine.1 r runs conflicts.0), conflicts.1))
-way_on s label t (Operation.Removing o) p fine runs now work (inr conflicts) = absurd conflicts
-way_on s label t (Operation.Surprising o) p fine runs now work (inr conflicts) = absurd conflicts
-way_on s label t (Operation.Finishing f) p fine runs now work (inr conflicts) = absurd conflicts
+way_on s label t o p fine runs now work (inr conflicts) = Way.goes o p runs now work (inr (fine.1 o runs conflicts.0 conflicts.1, conflicts.2))
 
 -- the operation that ends was this one before its next device was taken
-way_over : (s : State) (label : Label) (t : State) (o : Operation) (result : OpEnd) → Running s o → t.operation ≡ None → label ≡ Label.End (kind_of o) (path_of o) result → EndsBy (is_removal o) result → Way s (record { label = label; state = t })
+way_over : (s : State) (label : Label) (t : State) (o : Job) (result : OpEnd) → Running s o → t.operation ≡ None → label ≡ Label.End o.kind o.path result → EndsBy (is_removal (course_of o.kind)) result → Way s (record { label = label; state = t })
 way_over s label t o result now after prints by =
     let work = turn_work s now.before o now.turn in
     Way.ends now.before result now.runs after
-    (prints ∙ ap (λ (k : OpKind). Label.End k (path_of o) result) work.kind ∙ ap (λ (p : Text). Label.End (kind_of now.before) p result) work.path) (subst (λ (b : Bool). EndsBy b result) work.sort by)
+    (prints ∙ ap (λ (k : OpKind). Label.End k o.path result) work.kind ∙ ap (λ (p : Text). Label.End now.before.kind p result) work.path) (subst (λ (k : OpKind). EndsBy (is_removal (course_of k)) result) work.kind by)
 
 way_step : (s : State) (label : Label) (t : State) → Fine s → OpEffect s label t → Way s (record { label = label; state = t })
 way_step s label t fine (OpEffect.idles none now (inl beside)) = Way.idles none now beside
@@ -56,9 +53,9 @@ way_step s label t fine (OpEffect.begins kind node none alone at fits is) = Way.
 way_step s label t fine (OpEffect.goes o p runs now work prints) = way_on s label t o p fine runs now work prints
 way_step s label t fine (OpEffect.ends o result runs now prints by over) = way_over s label t o result runs now prints by
 
-way_still : (s : State) (label : Label) (t : State) (o : Option Operation) → s.operation ≡ o → t.operation ≡ s.operation → IsBeside label → Way s (record { label = label; state = t })
+way_still : (s : State) (label : Label) (t : State) (o : Option Job) → s.operation ≡ o → t.operation ≡ s.operation → IsBeside label → Way s (record { label = label; state = t })
 way_still s label t None e now beside = Way.idles e (now ∙ e) beside
-way_still s label t (Some o) e now beside = Way.goes o o e (now ∙ e) (record { sort = refl; kind = refl; path = refl; spared = refl; wanted = refl; own = λ own. own }) (inl beside)
+way_still s label t (Some o) e now beside = Way.goes o o e (now ∙ e) (record { kind = refl; path = refl; spared = refl; wanted = refl }) (inl beside)
 
 way_event : (s : State) (label : Label) (t : State) → AnswerEffect s label t → Way s (record { label = label; state = t })
 way_event s label t (AnswerEffect.stays word nodes acts now) = way_still s label t s.operation refl now (beside_word label word)
@@ -78,8 +75,8 @@ adding_fine (d ∷ ds) = tt
 
 entered_fine : (s : State) (k : ℕ) (t : State) (phase : Phase) → Enters s k t phase → DueFine phase
 entered_fine s k t phase (Enters.installs drivers chosen drops clears) = adding_fine drivers
-entered_fine s k t phase (Enters.restarts r plan runs plain is target found nodes) = tt
-entered_fine s k t phase (Enters.undoes r runs plain target) = tt
+entered_fine s k t phase (Enters.restarts r plan runs course plain is target found nodes) = tt
+entered_fine s k t phase (Enters.undoes r runs course plain target) = tt
 
 stepped_fine : (s : State) (k : ℕ) (t : State) (old new : Phase) → DueFine old → PhaseStep s k t old new → DueFine new
 stepped_fine s k t old new fine (PhaseStep.added d ds acts) = adding_fine ds

@@ -4,17 +4,17 @@ use Rattle.std.proofs.Common.{ℕ, ◌≡◌, true, List, [], ◌∷◌, Option,
 use Rattle.pnp_labels.specs.declared.states.DevState.TheVariants.{SurpriseRemoved}
 use Rattle.pnp_model.specs.Cores.{node_at, serials_of}
 use Rattle.pnp_model.specs.Keyed.{those}
-use Rattle.pnp_model.specs.Records.{Core, Node, Operation, RemovalStage, State}
+use Rattle.pnp_model.specs.Records.{Core, Node, State, Job, Stage, Course, course_of}
 use Rattle.pnp_model.specs.Tests.{has, is_surprise_removed}
 use Rattle.pnp_model.specs.Trees.{direct, hangs_on}
 use Rattle.pnp_laws.specs.Kept.{Ascending, Within}
-use Rattle.pnp_laws.specs.Waiting.{DependentsTold, DependentsToldLaw, NeitherRuns, Told}
+use Rattle.pnp_laws.specs.Waiting.{DependentsTold, DependentsToldLaw, NeitherRuns, Told, IsNeither}
 use Rattle.pnp_laws.proofs.Closures.{Closed, closed_within, hangs_some, those_serial}
 use Rattle.pnp_laws.proofs.Lists.{those_found}
 use Rattle.pnp_laws.proofs.Lookups.{some_same}
 use Rattle.pnp_laws.proofs.OpSteps.{is_SurpriseRemoved}
 use Rattle.pnp_laws.proofs.RunsStand.{Kept, reaches_kept}
-use Rattle.pnp_laws.proofs.Standing.{RemovalTold, ToldKept}
+use Rattle.pnp_laws.proofs.Standing.{RemovalTold, ToldKept, JobTold}
 
 -- those that wait
 abbrev waiting_ones : Core → List ℕ
@@ -45,17 +45,20 @@ module _ (c : Core) (order : Ascending 0 c.nodes) (told : Told c) where
       told_one j m there (closed_within c (direct c k) (waiting_ones c) order ones_closed (direct_within k n at state) j depends)
 
 -- where neither runs, what is kept says it of what hangs on the device
-pub told_beside : (o : Option Operation) (c : Core) → NeitherRuns o → ToldKept o c → Told c
+told_removal : (o : Job) (c : Core) (stage : Stage) → RemovalTold c o stage → Told c
+told_removal o c Stage.Removing h = h.0
+told_removal o c Stage.Settling h = h.0
+told_removal o c _ h = h
+
+told_in : (course : Course) (o : Job) (c : Core) → IsNeither course → JobTold course o c → Told c
+told_in Course.Rebalancing r c neither told = told
+told_in Course.Removing o c neither told = told_removal o c o.stage told
+told_in Course.Surprising o c neither told = absurd neither
+told_in Course.Finishing f c neither told = absurd neither
+
+pub told_beside : (o : Option Job) (c : Core) → NeitherRuns o → ToldKept o c → Told c
 told_beside None c neither told = told
-told_beside (Some (Operation.Rebalancing r)) c neither told = told
-told_beside (Some (Operation.Removing o)) c neither told = by_stage o.stage told
-  where
-    by_stage : (stage : RemovalStage) → RemovalTold c o stage → Told c
-    by_stage (RemovalStage.Removing w) h = h.0
-    by_stage RemovalStage.Settling h = h.0
-    by_stage _ h = h
-told_beside (Some (Operation.Surprising o)) c neither told = absurd neither
-told_beside (Some (Operation.Finishing f)) c neither told = absurd neither
+told_beside (Some o) c neither told = told_in (course_of o.kind) o c neither told
 
 pub kept_told : (s : State) → Kept s → NeitherRuns s.operation → Told s.core
 kept_told s kept neither = told_beside s.operation s.core neither kept.waits.told

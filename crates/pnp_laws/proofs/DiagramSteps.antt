@@ -32,7 +32,7 @@ module _ (s : State) (label : Label) (t : State) (good : IsGood s) where
   changes k _ (Origin.stacks n d ds name at acts prints) = inr (n, at, subst (λ (l : Label). Change l n.state (stacked n.state)) (sym prints) (add_changes n.state (acting_fits s k n (Phase.Adding (d ∷ ds)) at acts good).1))
   changes k _ (Origin.assigned n phase plan at acts search part now) = inr (n, at, Change-same label n.state)
   changes k _ (Origin.stripped n w at request prints) = inr (n, at, ended k n Minor.Remove w false at request refl prints)
-  changes k _ (Origin.commits r n runs is at) = inr (n, at, Change-same label n.state)
+  changes k _ (Origin.commits r n runs course is at) = inr (n, at, Change-same label n.state)
   changes k _ (Origin.joins node d below gone own) = inl (gone, refl)
 
   pub follows_effect : NodeEffect s label t → FollowsDiagram label s.core.nodes t.core.nodes

@@ -16,7 +16,7 @@ use Rattle.pnp_model.specs.Frames.{first_node}
 use Rattle.pnp_model.specs.Keyed.{changed_first, without_first}
 use Rattle.pnp_model.specs.Machine.{is_ready}
 use Rattle.pnp_model.specs.Rebalances.{committed, movers, plan_of}
-use Rattle.pnp_model.specs.Records.{Activity, Device, Node, Operation, Phase, Rebalance, RebalanceStage, State, Step, Walk}
+use Rattle.pnp_model.specs.Records.{Activity, Device, Node, Phase, State, Step, Walk, Job, Stage, Course, course_of}
 use Rattle.pnp_model.specs.Starts.{own_part}
 use Rattle.pnp_model.specs.States.{activity_at, entered, is_activity, new_child, with_phase}
 use Rattle.pnp_model.specs.Tasks.{joining}
@@ -99,7 +99,7 @@ pub data Origin (s : State) (label : Label) (t : State) (k : ℕ) : Node → Typ
   assigned : (n : Node) (phase : Phase) (plan : List (List Res)) → node_at k s.core.nodes ≡ Some n → Acting s k phase → IsSearch phase → Assigned s n plan
       → t.activities ≡ changed_first (is_activity k) (with_phase (Phase.Starting (walk_of Minor.Start))) s.activities → Origin s label t k (with_holds (own_part plan) n)
   stripped : (n : Node) (w : Walk) → node_at k s.core.nodes ≡ Some n → Request s n Minor.Remove w → label ≡ Label.State n.path NoStack → Origin s label t k (bare n)
-  commits : (r : Rebalance) (n : Node) → s.operation ≡ Some (Operation.Rebalancing r) → r.stage ≡ RebalanceStage.Committing → node_at k s.core.nodes ≡ Some n → Origin s label t k (committed r.wanted r.target (movers r) (plan_of r.found) n)
+  commits : (r : Job) (n : Node) → s.operation ≡ Some r → course_of r.kind ≡ Course.Rebalancing → r.stage ≡ Stage.Committing → node_at k s.core.nodes ≡ Some n → Origin s label t k (committed r.wanted r.target (movers r) (plan_of r.found) n)
   joins : (node : Node) (d : Device) → joining node.born s.core.nodes s.world ≡ Some d → node_at k s.core.nodes ≡ None → s.next_serial ≡ k → Origin s label t k (new_child node.serial d s)
 
 module _ (s : State) (label : Label) (t : State) where
@@ -130,9 +130,9 @@ module _ (s : State) (label : Label) (t : State) where
         changed node.serial bare (λ x. refl)
         (λ n q. subst (λ (x : Node). Origin s label t node.serial (bare x)) (some_same (node_at node.serial s.core.nodes) node n there q) (Origin.stripped node w there request prints))
         (subst (λ (x : List Node). node_at k x ≡ Some m) e now)
-    origin (NodeEffect.commits r runs is e rest) now =
+    origin (NodeEffect.commits r runs course is e rest) now =
         let old = map_from k (committed r.wanted r.target (movers r) (plan_of r.found)) s.core.nodes m (λ x. refl) (subst (λ (x : List Node). node_at k x ≡ Some m) e now) in
-        subst (λ (z : Node). Origin s label t k z) (sym old.2) (Origin.commits r old.0 runs is old.1)
+        subst (λ (z : Node). Origin s label t k z) (sym old.2) (Origin.commits r old.0 runs course is old.1)
     origin (NodeEffect.joins node d none there up below is) now =
         elim (joined_from k s.core.nodes (new_child node.serial d s) m (subst (λ (x : Step). node_at k x.state.core.nodes ≡ Some m) is now)) [
           | inl q ↦ Origin.was m q
@@ -156,7 +156,7 @@ module _ (s : State) (label : Label) (t : State) where
   turns k _ (Origin.stacks n d ds name at acts prints) = inr (n, at, inr (Turns.added d ds name acts prints))
   turns k _ (Origin.assigned n phase plan at acts search part now) = inr (n, at, inl refl)
   turns k _ (Origin.stripped n w at request prints) = inr (n, at, inr (Turns.told NoStack prints))
-  turns k _ (Origin.commits r n runs is at) = inr (n, at, inl refl)
+  turns k _ (Origin.commits r n runs course is at) = inr (n, at, inl refl)
   turns k _ (Origin.joins node d below gone own) = inl gone
 
   pub state_from : Ascending 0 s.core.nodes → (k : ℕ) (n m : Node) → node_at k s.core.nodes ≡ Some n → NodeEffect s label t → node_at k t.core.nodes ≡ Some m → (m.state ≡ n.state) ⊎ Turns s label k n
@@ -177,8 +177,8 @@ pub data StartOrigin (s t : State) (k : ℕ) : Option Activity → Type 0 where
 module _ (s t : State) (good : IsGood s) (k : ℕ) where
   free : (phase : Phase) → Enters s k t phase → activity_at k s.activities ≡ None
   free phase (Enters.installs drivers chosen drops clears) = chosen.free
-  free phase (Enters.restarts r plan runs plain is target found nodes) = ap (activity_at k) (alone s (Operation.Rebalancing r) good runs)
-  free phase (Enters.undoes r runs plain target) = ap (activity_at k) (alone s (Operation.Rebalancing r) good runs)
+  free phase (Enters.restarts r plan runs course plain is target found nodes) = ap (activity_at k) (alone s r good runs)
+  free phase (Enters.undoes r runs course plain target) = ap (activity_at k) (alone s r good runs)
 
   kept_as : (o p : Option Activity) → p ≡ o → StartOrigin s t k o → StartOrigin s t k p
   kept_as o p e h = subst (StartOrigin s t k) (sym e) h
@@ -219,11 +219,11 @@ module _ (s t : State) (good : IsGood s) (k : ℕ) where
 
 -- Who is gone stood first of those that may leave ------------------------------------------------------
 
-pub gone_left : (s : State) (label : Label) (t : State) → NodeEffect s label t → (k : ℕ) (n : Node) → node_at k s.core.nodes ≡ Some n → node_at k t.core.nodes ≡ None → (o : Operation) × Running s o × (first_node s.core.nodes (to_leave o) ≡ Some n)
+pub gone_left : (s : State) (label : Label) (t : State) → NodeEffect s label t → (k : ℕ) (n : Node) → node_at k s.core.nodes ≡ Some n → node_at k t.core.nodes ≡ None → (o : Job) × Running s o × (first_node s.core.nodes (to_leave o) ≡ Some n)
 gone_left s label t (NodeEffect.same e rest) k n at gone = absurd (let now = ap (node_at k) e in cc)
 gone_left s label t (NodeEffect.changed j f alters e rest) k n at gone = absurd (let was = node_missing j k f s.core.nodes (alters_keeps s label t j f alters).serial (sym (ap (node_at k) e) ∙ gone) in cc)
 gone_left s label t (NodeEffect.stripped node w there request over prints e rest) k n at gone = absurd (let was = node_missing node.serial k bare s.core.nodes (λ x. refl) (sym (ap (node_at k) e) ∙ gone) in cc)
-gone_left s label t (NodeEffect.commits r runs is e rest) k n at gone =
+gone_left s label t (NodeEffect.commits r runs course is e rest) k n at gone =
     absurd (let now = sym gone ∙ ap (node_at k) e ∙ node_at-map k (committed r.wanted r.target (movers r) (plan_of r.found)) s.core.nodes (λ x. refl) ∙ ap (option_map (committed r.wanted r.target (movers r) (plan_of r.found))) at in cc)
 gone_left s label t (NodeEffect.joins node d idle there up below is) k n at gone =
     absurd (let now = sym gone ∙ ap (λ (x : Step). node_at k x.state.core.nodes) is ∙ joined_keeps k s.core.nodes (new_child node.serial d s) n at in cc)

@@ -16,7 +16,7 @@ use Rattle.pnp_labels.specs.declared.label.Reason.{Reason}
 use Rattle.pnp_labels.specs.declared.label.Label.{Label}
 use Rattle.pnp_model.specs.Books.{is_named, is_unnamed}
 use Rattle.pnp_model.specs.Frames.{held_by}
-use Rattle.pnp_model.specs.Records.{Activity, Core, Device, Duty, Handle, Node, Operation, Relation, State, Step, Task}
+use Rattle.pnp_model.specs.Records.{Activity, Core, Device, Duty, Handle, Node, Relation, State, Step, Task, Job}
 use Rattle.pnp_model.specs.Runs.Entry.{Happens}
 use Rattle.pnp_model.specs.States.{activity_at, device_of, enable_path, has_below, is_in_world, list_node, node_born, node_of, plug, unplug}
 use Rattle.pnp_model.specs.Machine.{phase_walk}
@@ -230,7 +230,7 @@ module _ (s : State) (event : Event) where
       (ap (λ (x : Event). Happens x (Label.Did (Deed.Changed node.path))) is) refl refl) (PathEffect.same refl) (WindowEffect.same refl) (HandleEffect.same refl)))))
 
   -- a walk got its answer
-  answered : (label : Label) (activities : List Activity) (operation : Option Operation) → IsUnasked label → joined label ≡ 0
+  answered : (label : Label) (activities : List Activity) (operation : Option Job) → IsUnasked label → joined label ≡ 0
       → AnswerEffect s label (record s { activities = activities; operation = operation }) → ActivityEffect s (record s { activities = activities; operation = operation })
       → Happened s event (record { label = label; state = record s { activities = activities; operation = operation } })
   answered label activities operation unasked quiet answer starts =

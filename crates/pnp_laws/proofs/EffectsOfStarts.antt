@@ -23,8 +23,9 @@ use Rattle.pnp_laws.specs.Kept.{Ascending}
 use Rattle.pnp_laws.specs.Words.{IsBeside, IsNoJoin, joined}
 use Rattle.pnp_laws.specs.Effects.{ActivityEffect, Acting, Alters, Assigned, BeginsFor, DriverEffect, Effect, Enters, HandleEffect, IsUnasked, JoinEffect, NodeEffect, OpEffect, Origin, Owes, PathEffect, PhaseStep, RangeEffect, Request, TaskEffect, WindowEffect, WorldEffect, begun, ends_bad, Over, Surprises}
 use Rattle.pnp_laws.proofs.IdleSteps.{ActivityStep, First, TaskStep}
-use Rattle.pnp_laws.proofs.Stages.{after_minor, reply}
+use Rattle.pnp_laws.proofs.Stages.{reply}
 use Rattle.pnp_model.specs.Starts as st
+use Rattle.pnp_laws.proofs.FitsBy.{after_minor}
 
 abbrev pub Steps : State → Step → Type 0
 Steps s step = Effect s (Did step.label) step.state

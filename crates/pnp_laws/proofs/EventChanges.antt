@@ -4,7 +4,7 @@ use Rattle.pnp_labels.specs.declared.words.Answer.{Answer}
 use Rattle.pnp_labels.specs.declared.event.Event.{Event}
 use Rattle.pnp_labels.specs.declared.label.Label.{Label}
 use Rattle.pnp_model.specs.Keyed.{changed_first}
-use Rattle.pnp_model.specs.Records.{Activity, Phase, State, Step, Operation}
+use Rattle.pnp_model.specs.Records.{Activity, Phase, State, Step, Job}
 use Rattle.pnp_model.specs.Records.Phase.{Adding, Due}
 use Rattle.pnp_model.specs.Runs.{Entry}
 use Rattle.pnp_model.specs.States.{activity_at, is_activity, with_phase}
@@ -21,14 +21,14 @@ beside_word (Label.Refused word reason) h = tt
 beside_word _ h = absurd h
 
 -- the operation is as it was, but for the answer that its walk got
-abbrev pub Answered : Option Operation → Option Operation → Type 0
-Answered old new = (new ≡ old) ⊎ ((ok : Bool) × (o : Operation) × (old ≡ Some o) × (new ≡ Some (ev.completed (ev.answer_of ok) o)))
+abbrev pub Answered : Option Job → Option Job → Type 0
+Answered old new = (new ≡ old) ⊎ ((ok : Bool) × (o : Job) × (old ≡ Some o) × (new ≡ Some (ev.completed (ev.answer_of ok) o)))
 
 pub record Outside (s : State) (step : Step) : Type 0 where
   pub word : IsWord step.label
   pub nodes : step.state.core.nodes ≡ s.core.nodes
-  pub relations : (o : Operation) → s.operation ≡ Some o → step.state.core.relations ≡ s.core.relations
-  pub reserved : (o : Operation) → s.operation ≡ Some o → step.state.core.reserved ≡ s.core.reserved
+  pub relations : (o : Job) → s.operation ≡ Some o → step.state.core.relations ≡ s.core.relations
+  pub reserved : (o : Job) → s.operation ≡ Some o → step.state.core.reserved ≡ s.core.reserved
   pub activities : (k : ℕ) (a : Activity) → activity_at k step.state.activities ≡ Some a → (b : Activity) × (activity_at k s.activities ≡ Some b) × (is_starting a.phase ≡ is_starting b.phase)
   pub operation : Answered s.operation step.state.operation
 
@@ -60,16 +60,16 @@ still_serial old new (Label.Refused word reason) w e = omega arith
 still_serial old new _ w e = absurd w
 
 -- ranges stay while an operation runs
-pub ranges_stay : (s t : State) {entry : Entry} (o : Operation) → s.operation ≡ Some o → RangeEffect s entry t → t.core.reserved ≡ s.core.reserved
+pub ranges_stay : (s t : State) {entry : Entry} (o : Job) → s.operation ≡ Some o → RangeEffect s entry t → t.core.reserved ≡ s.core.reserved
 ranges_stay s t o runs (RangeEffect.same e) = e
 ranges_stay s t o runs (RangeEffect.reserves res none free nodes e event label is) = absurd (cc)
 
 -- and so do relations in an event
-pub relations_stay : (s : State) (label : Label) (t : State) (o : Operation) → IsWord label → s.operation ≡ Some o → NodeEffect s label t → t.core.relations ≡ s.core.relations
+pub relations_stay : (s : State) (label : Label) (t : State) (o : Job) → IsWord label → s.operation ≡ Some o → NodeEffect s label t → t.core.relations ≡ s.core.relations
 relations_stay s label t o word runs (NodeEffect.same nodes e) = e
 relations_stay s label t o word runs (NodeEffect.changed j f alters nodes e) = e
 relations_stay s label t o word runs (NodeEffect.stripped node w at request ends prints nodes e) = absurd (subst (λ (x : Label). IsWord x) prints word)
-relations_stay s label t o word runs (NodeEffect.commits r own is nodes e) = e
+relations_stay s label t o word runs (NodeEffect.commits r own course is nodes e) = e
 relations_stay s label t o word runs (NodeEffect.joins node d none at up there is) = absurd (cc)
 relations_stay s label t o word runs (NodeEffect.left node p own first nodes e) = e
 relations_stay s label t o word runs (NodeEffect.related r related nodes e) = absurd (let none = related.none in cc)

@@ -1,13 +1,15 @@
 -- Each event keeps what a run keeps.
 use Rattle.std.proofs.Common.{ℕ, ◌≡◌, ◌≢◌, inl, inr, List, ◌∷◌, Option, Some, None, sym, ap, subst}
 use Rattle.pnp_model.specs.Keyed.{changed_first}
-use Rattle.pnp_model.specs.Records.{Node, Activity, Phase, State, Operation, Rebalance, RebalanceStage, Removal, RemovalStage, Surprise, SurpriseStage, Finish, FinishStage}
+use Rattle.pnp_model.specs.Records.{Course, Job, Node, Activity, Phase, State, Walk, course_of}
 use Rattle.pnp_model.specs.Records.Phase.{Adding}
 use Rattle.pnp_model.specs.Cores.{node_at}
 use Rattle.pnp_model.specs.States.{is_activity, with_phase}
-use Rattle.pnp_model.specs.Events.{answer_of, completed, completed_phase, completed_rebalance, completed_removal, completed_surprise, completed_finish, happens}
+use Rattle.pnp_model.specs.Walks.{after}
+use Rattle.std.specs.Option.{option_map}
+use Rattle.pnp_model.specs.Events.{answer_of, completed, completed_phase, happens}
 use Rattle.pnp_laws.specs.Effects.{AnswerEffect}
-use Rattle.pnp_laws.specs.Kept.{Good, IsGood, Lawful, Fits, OperationFits, Alone, RebalanceKeeps, RemovalKeeps, SurpriseKeeps, FinishKeeps}
+use Rattle.pnp_laws.specs.Kept.{Good, IsGood, Lawful, Fits, OperationFits, Alone, IsOwn, JobFits, asked_in}
 use Rattle.pnp_labels.specs.declared.states.DevState.{DevState}
 use Rattle.pnp_labels.specs.declared.words.Answer.{Answer}
 use Rattle.pnp_labels.specs.declared.event.Event.{Event}
@@ -15,6 +17,7 @@ use Rattle.pnp_labels.specs.declared.label.Label.{Label}
 use Rattle.pnp_laws.proofs.Lookups.{phase_from, InOrder-set_phase}
 use Rattle.pnp_laws.proofs.EffectsOfEvents.{event_effect}
 use Rattle.pnp_laws.proofs.EventChanges.{happens_outside, still_serial}
+use Rattle.pnp_laws.proofs.FitsBy.{answered_own, fits_own}
 use Rattle.pnp_laws.proofs.Kept.{lawful_by, Good_nodes}
 use Rattle.pnp_laws.proofs.TaskSteps.{unchanged}
 
@@ -22,29 +25,19 @@ completed_fits : (answer : Answer) (phase : Phase) (x : DevState) → Fits phase
 completed_fits answer (Adding (d ∷ ds)) x h = h
 completed_fits answer _ x h = h
 
-keeps_rebalance : (answer : Answer) (r : Rebalance) (stage : RebalanceStage) (nodes : List Node) → RebalanceKeeps r stage nodes → RebalanceKeeps (record r { stage = completed_rebalance answer stage }) (completed_rebalance answer stage) nodes
-keeps_rebalance answer r (RebalanceStage.Asking w) nodes k = record { todo = k.todo; agreed = k.agreed; rootless = k.rootless; no_root = k.no_root; asks = k.asks; each = k.each; waits = k.waits }
-keeps_rebalance answer r _ nodes k = record { todo = k.todo; agreed = k.agreed; rootless = k.rootless; no_root = k.no_root; asks = k.asks; each = k.each; waits = k.waits }
+-- a request that gets its answer changes nothing else
+pub walked_fits : (course : Course) (o : Job) (walk : Option Walk) (nodes : List Node) → IsOwn walk (asked_in course o.stage) → JobFits course o nodes → JobFits course (record o { walk = walk }) nodes
+walked_fits Course.Rebalancing o walk nodes own k = record { kind = k.kind; own = own; todo = k.todo; agreed = k.agreed; rootless = k.rootless; no_root = k.no_root; asks = k.asks; each = k.each; waits = k.waits }
+walked_fits Course.Removing o walk nodes own k = record { own = own; set = k.set; rootless = k.rootless; todo = k.todo; agreed = k.agreed; asks = k.asks; each = k.each }
+walked_fits Course.Surprising o walk nodes own k = record { own = own; set = k.set; rootless = k.rootless; last = k.last; todo = k.todo; inside = k.inside; ends = k.ends; each = k.each; calm = k.calm }
+walked_fits Course.Finishing o walk nodes own k = record { own = own; one = k.one; each = k.each }
 
-keeps_removal : (answer : Answer) (o : Removal) (stage : RemovalStage) (nodes : List Node) → RemovalKeeps o stage nodes → RemovalKeeps (record o { stage = completed_removal answer stage }) (completed_removal answer stage) nodes
-keeps_removal answer o (RemovalStage.Asking w) nodes k = record { set = k.set; rootless = k.rootless; todo = k.todo; agreed = k.agreed; asks = k.asks; each = k.each }
-keeps_removal answer o _ nodes k = record { set = k.set; rootless = k.rootless; todo = k.todo; agreed = k.agreed; asks = k.asks; each = k.each }
+pub completed_operation : (answer : Answer) (o : Job) (nodes : List Node) → OperationFits (Some o) nodes → OperationFits (Some (completed answer o)) nodes
+completed_operation answer o nodes h =
+    let course = course_of o.kind in
+    walked_fits course o (option_map (λ w. after w answer) o.walk) nodes (answered_own answer o.walk (asked_in course o.stage) (fits_own course o nodes h)) h
 
-keeps_surprise : (answer : Answer) (o : Surprise) (stage : SurpriseStage) (nodes : List Node) → SurpriseKeeps o stage nodes → SurpriseKeeps (record o { stage = completed_surprise answer stage }) (completed_surprise answer stage) nodes
-keeps_surprise answer o (SurpriseStage.Telling w) nodes k = record { set = k.set; rootless = k.rootless; last = k.last; todo = k.todo; inside = k.inside; ends = k.ends; each = k.each; calm = k.calm }
-keeps_surprise answer o _ nodes k = record { set = k.set; rootless = k.rootless; last = k.last; todo = k.todo; inside = k.inside; ends = k.ends; each = k.each; calm = k.calm }
-
-keeps_finish : (answer : Answer) (f : Finish) (stage : FinishStage) (nodes : List Node) → FinishKeeps f stage nodes → FinishKeeps (record f { stage = completed_finish answer stage }) (completed_finish answer stage) nodes
-keeps_finish answer f (FinishStage.Removing w) nodes k = record { one = k.one; each = k.each }
-keeps_finish answer f _ nodes k = record { one = k.one; each = k.each }
-
-pub completed_operation : (answer : Answer) (o : Operation) (nodes : List Node) → OperationFits (Some o) nodes → OperationFits (Some (completed answer o)) nodes
-completed_operation answer (Operation.Rebalancing r) nodes h = keeps_rebalance answer r r.stage nodes h
-completed_operation answer (Operation.Removing o) nodes h = keeps_removal answer o o.stage nodes h
-completed_operation answer (Operation.Surprising o) nodes h = keeps_surprise answer o o.stage nodes h
-completed_operation answer (Operation.Finishing f) nodes h = keeps_finish answer f f.stage nodes h
-
-still_alone : (o : Option Operation) (acts : List Activity) (k : ℕ) (phase : Phase) → Alone o acts → Alone o (changed_first (is_activity k) (with_phase phase) acts)
+still_alone : (o : Option Job) (acts : List Activity) (k : ℕ) (phase : Phase) → Alone o acts → Alone o (changed_first (is_activity k) (with_phase phase) acts)
 still_alone None acts k phase h = tt
 still_alone (Some o) acts k phase h = ap (changed_first (is_activity k) (with_phase phase)) h
 
@@ -67,7 +60,7 @@ lawful_answer s label t serial (AnswerEffect.answers word nodes k a ok at acts n
     ])
     (still_alone s.operation s.activities k phase good.alone) good.fits good)
 lawful_answer s label t serial (AnswerEffect.answered word nodes acts ok o runs now) good =
-    let g = subst (λ (x : Option Operation). Good s.next_serial s.core.nodes s.activities x) runs good in
+    let g = subst (λ (x : Option Job). Good s.next_serial s.core.nodes s.activities x) runs good in
     let fits = completed_operation (answer_of ok) o s.core.nodes g.fits in
     lawful_by t s.next_serial s.core.nodes s.activities (Some (completed (answer_of ok) o)) serial nodes acts now
     (Good_nodes s.next_serial s.core.nodes s.activities s.activities (Some o) (Some (completed (answer_of ok) o)) g.order g.phases g.alone fits g)

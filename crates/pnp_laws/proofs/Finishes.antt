@@ -5,7 +5,7 @@ use Rattle.std.proofs.lemmas.Bool.{cases_eq}
 use Rattle.std.proofs.lemmas.Bool.Decides.{nat_tests}
 use Rattle.pnp_model.specs.Keyed.{those}
 use Rattle.pnp_model.specs.Tests.{has}
-use Rattle.pnp_model.specs.Records.{Node, Core, Handle, Surprise}
+use Rattle.pnp_model.specs.Records.{Node, Core, Handle, Job}
 use Rattle.pnp_model.specs.Cores.{node_at, strip, drop_node}
 use Rattle.pnp_model.specs.Frames.{rest}
 use Rattle.pnp_model.specs.Handles.{is_open}
@@ -277,7 +277,7 @@ pub head_childless : (next : ℕ) (c : Core) (set todo : List ℕ) (j : ℕ) →
 head_childless next c set todo j order tree head own h i m at up e = head_free next c set todo j order tree head own h i m at (child_hangs c j i m at up e)
 
 -- nor on one that does not stay behind
-pub goes_free : (next : ℕ) (c : Core) (o : Surprise) (handles : List Handle) (todo : List ℕ) (j : ℕ) → Ascending 0 c.nodes → Tree next c → HeadIs j todo → has o.set j ≡ true → FinishesBut c o.set o.behind todo → stays_behind c o handles j ≡ false → IsFree c j
+pub goes_free : (next : ℕ) (c : Core) (o : Job) (handles : List Handle) (todo : List ℕ) (j : ℕ) → Ascending 0 c.nodes → Tree next c → HeadIs j todo → has o.set j ≡ true → FinishesBut c o.set o.behind todo → stays_behind c o handles j ≡ false → IsFree c j
 goes_free next c o handles todo j order tree head own f goes i m at on =
     let left = hung_behind next c o.set o.behind todo j order tree head own f i m at on in
     let any = any_some o.behind (dependents c j) i (hung_dependent c j i m order at on) left in

@@ -7,7 +7,7 @@ use Rattle.pnp_labels.specs.declared.label.OpKind.{OpKind}
 use Rattle.pnp_model.specs.Cores.{node_at}
 use Rattle.pnp_model.specs.Handles.{is_ready_device}
 use Rattle.pnp_model.specs.Machine.{IsDeclined, IsStep, activity_next, after_start, begin_alone, idle_next, is_in_order, is_ready, next, next_of, start_lifted, task_next}
-use Rattle.pnp_model.specs.Records.{Activity, Doing, Duty, Node, Operation, Phase, Settings, State, Task, doing_map}
+use Rattle.pnp_model.specs.Records.{Activity, Course, Doing, Duty, Job, Node, Phase, Settings, State, Task, course_of, doing_map}
 use Rattle.pnp_model.specs.Records.Doing.{Does, Searches}
 use Rattle.pnp_model.specs.Starts.{StartBeside, StartMove, act}
 use Rattle.pnp_model.specs.States.{with_core}
@@ -45,19 +45,19 @@ command_on s t k (CommandEffect.finishes n path found state e) h = appended_on s
 command_on s t k (CommandEffect.begins kind n path found up e) h = appended_on s t (record { kind = Duty.Begins kind; serial = n.serial }) k e h
 
 -- while an operation runs no task is dropped
-pub running_on : (s t : State) (o : Operation) (k : ℕ) → s.operation ≡ Some o → TaskEffect s t → is_to_finish s.tasks k ≡ true → is_to_finish t.tasks k ≡ true
+pub running_on : (s t : State) (o : Job) (k : ℕ) → s.operation ≡ Some o → TaskEffect s t → is_to_finish s.tasks k ≡ true → is_to_finish t.tasks k ≡ true
 running_on s t o k runs (TaskEffect.same e) h = subst (λ (ts : List Task). is_to_finish ts k ≡ true) (sym e) h
 running_on s t o k runs (TaskEffect.appended task origin e) h = appended_on s t task k e h
 running_on s t o k runs (TaskEffect.joins serial e) h = appended_on s t (record { kind = Duty.Starting; serial = s.next_serial }) k e h
 running_on s t o k runs (TaskEffect.dropped task none first surprises e) h = absurd (cc)
-running_on s t o k runs (TaskEffect.put_first node r is stage first e) h =
+running_on s t o k runs (TaskEffect.put_first node r is course stage first e) h =
     subst (λ (ts : List Task). is_to_finish ts k ≡ true) (sym e) (or_right (is_finish_of k (record { kind = Duty.Begins OpKind.Surprise; serial = node.serial })) (is_to_finish s.tasks k) h)
 
 -- The first task -------------------------------------------------------------------------------------------
 
-abbrev pub IsFinishing : Option Operation → Type 0
-IsFinishing (Some (Operation.Finishing f)) = Unit {0}
-IsFinishing _ = ⊥
+abbrev pub IsFinishing : Option Job → Type 0
+IsFinishing None = ⊥
+IsFinishing (Some o) = course_of o.kind ≡ Course.Finishing
 
 -- it stays, or a finish begins
 abbrev pub StaysDue : State → ℕ → Type 0
@@ -100,7 +100,7 @@ module _ (budget : ℕ) (s : State) (k : ℕ) (due : is_to_finish s.tasks k ≡ 
     alone_on : (activities : List Activity) → AllNext budget (λ step. StaysDue step.state k) (begin_alone s OpKind.Finish k activities)
     alone_on [] =
         subst (λ (o : Option Node). StaysDue (begin_step s OpKind.Finish k o).state k) (sym at)
-        (subst (λ (b : Bool). StaysDue (finish_task s n b).state k) (sym ready) (inr tt))
+        (subst (λ (b : Bool). StaysDue (finish_task s n b).state k) (sym ready) (inr refl))
     alone_on (a ∷ activities) = tt
 
     idle_on : (settings : Settings) (o : Option Activity) → First s (Duty.Begins OpKind.Finish) k → AllNext budget (λ step. StaysDue step.state k) (idle_next settings s o)
@@ -111,7 +111,7 @@ module _ (settings : Settings) (s : State) (label : Label) (t : State) (k : ℕ)
   first_on : s.operation ≡ None → First s (Duty.Begins OpKind.Finish) k → IsStep settings (next settings s) (record { label = label; state = t }) → StaysDue t k
   first_on none first is =
       all_step (λ step. StaysDue step.state k) settings (next_of settings s None) (record { label = label; state = t }) (idle_on settings.budget s k due n at ready settings (find is_ready s.activities) first)
-      (subst (λ (o : Option Operation). IsStep settings (next_of settings s o) (record { label = label; state = t })) none is)
+      (subst (λ (o : Option Job). IsStep settings (next_of settings s o) (record { label = label; state = t })) none is)
 
   -- a step
   pub steps_on : IsStep settings (next settings s) (record { label = label; state = t }) → TaskEffect s t → StaysDue t k
@@ -123,7 +123,7 @@ module _ (settings : Settings) (s : State) (label : Label) (t : State) (k : ℕ)
         | inl own ↦ first_on none own is
         | inr q ↦ inl (subst (λ (ts : List Task). is_to_finish ts k ≡ true) (sym e) q)
       ]
-  steps_on is (TaskEffect.put_first node r runs stage first e) =
+  steps_on is (TaskEffect.put_first node r runs course stage first e) =
       inl (subst (λ (ts : List Task). is_to_finish ts k ≡ true) (sym e) (or_right (is_finish_of k (record { kind = Duty.Begins OpKind.Surprise; serial = node.serial })) (is_to_finish s.tasks k) due))
 
 -- a client declines another task

@@ -12,21 +12,22 @@ use Rattle.pnp_model.specs.Cores.{node_at, stacked}
 use Rattle.pnp_model.specs.Frames.{first_node}
 use Rattle.pnp_model.specs.Handles.{closed_with, comes_after, is_handle_of, is_open, one_less, one_more, opened, opened_with}
 use Rattle.pnp_model.specs.Keyed.{changed_first, put_before, without_first}
-use Rattle.pnp_model.specs.Records.{Handle, Node, Operation, Phase, RebalanceStage, RemovalStage, State, SurpriseStage, FinishStage, Walk}
+use Rattle.pnp_model.specs.Records.{Handle, Node, Phase, State, Walk, Job, Stage, Course, course_of}
 use Rattle.pnp_model.specs.Runs.{Entry, printed}
 use Rattle.pnp_model.specs.Walks.{state_after}
-use Rattle.pnp_laws.specs.Effects.{HandleEffect, NodeEffect, Request, finish_minor, operation_minor, rebalance_minor, removal_minor, surprise_minor, todo_of}
-use Rattle.pnp_laws.specs.Kept.{is_idle}
+use Rattle.pnp_laws.specs.Effects.{HandleEffect, NodeEffect, Request}
+use Rattle.pnp_laws.specs.Kept.{is_idle, asked_in}
 use Rattle.pnp_laws.proofs.Asked.{left_bare}
 use Rattle.pnp_laws.proofs.EffectViews.{Origin, acting_fits, gone_left, origin}
 use Rattle.pnp_laws.proofs.Lists.{head_found, head_has}
 use Rattle.pnp_laws.proofs.Lookups.{node_found, own_serial, some_same}
 use Rattle.pnp_laws.proofs.ShutSteps.{unopen}
-use Rattle.pnp_laws.proofs.Standing.{FinishShut, HandlesFit, Kept, RemovalShut, StageShut, SurpriseShut, is_held}
+use Rattle.pnp_laws.proofs.Standing.{FinishShut, HandlesFit, Kept, RemovalShut, SurpriseShut, is_held, JobShut}
 use Rattle.pnp_laws.proofs.Tolds.{idle_unheld}
 use Rattle.pnp_laws.proofs.Truths.{by_test, or_cases, or_left, or_right}
 use Rattle.pnp_laws.proofs.Turns.{running_good}
 use Rattle.pnp_laws.proofs.TurnsKept.{running_shut}
+use Rattle.pnp_laws.proofs.FitsBy.{asked_is}
 
 -- Handles ------------------------------------------------------------------------------------------
 
@@ -73,35 +74,36 @@ takes_as : (own minor : Minor) → Some own ≡ Some minor → Takes minor → T
 takes_as own minor is takes = let same : own ≡ minor = cc in subst (λ (m : Minor). Takes m) (sym same) takes
 
 -- no handle to it is open
-asked_shut : (handles : List Handle) (nodes : List Node) (o : Operation) (node : Node) (minor : Minor) → StageShut handles (Some o) → first_node nodes (todo_of o) ≡ Some node → operation_minor o ≡ Some minor → Takes minor → is_open handles node.serial ≡ false
-asked_shut handles nodes (Operation.Rebalancing r) node minor shut first is takes = by_stage r.stage is
-  where
-    by_stage : (stage : RebalanceStage) → rebalance_minor stage ≡ Some minor → is_open handles node.serial ≡ false
-    by_stage (RebalanceStage.Asking w) is = absurd (takes_as Minor.QueryStop minor is takes)
-    by_stage (RebalanceStage.TakingBack w) is = absurd (takes_as Minor.CancelStop minor is takes)
-    by_stage (RebalanceStage.Cancelling w) is = absurd (takes_as Minor.CancelStop minor is takes)
-    by_stage (RebalanceStage.Stopping w) is = absurd (takes_as Minor.Stop minor is takes)
-    by_stage (RebalanceStage.Restarting w) is = absurd (takes_as Minor.Start minor is takes)
-    by_stage _ is = absurd (cc)
-asked_shut handles nodes (Operation.Removing o) node minor shut first is takes = by_stage o.stage shut is
-  where
-    by_stage : (stage : RemovalStage) → RemovalShut handles o stage → removal_minor stage ≡ Some minor → is_open handles node.serial ≡ false
-    by_stage (RemovalStage.Asking w) shut is = shut.1 node.serial (head_found nodes o.todo node first).0
-    by_stage (RemovalStage.TakingBack w) shut is = absurd (takes_as Minor.CancelRemove minor is takes)
-    by_stage (RemovalStage.Cancelling w) shut is = absurd (takes_as Minor.CancelRemove minor is takes)
-    by_stage (RemovalStage.Removing w) shut is = shut node.serial (head_has node.serial o.todo (head_found nodes o.todo node first).0)
-    by_stage _ shut is = absurd (cc)
-asked_shut handles nodes (Operation.Surprising o) node minor shut first is takes = by_stage o.stage shut is
-  where
-    by_stage : (stage : SurpriseStage) → SurpriseShut handles o stage → surprise_minor stage ≡ Some minor → is_open handles node.serial ≡ false
-    by_stage (SurpriseStage.Telling w) shut is = absurd (takes_as Minor.SurpriseRemoval minor is takes)
-    by_stage (SurpriseStage.Removing w) shut is = shut node.serial (head_found nodes o.todo node first).0
-    by_stage _ shut is = absurd (cc)
-asked_shut handles nodes (Operation.Finishing f) node minor shut first is takes = by_stage f.stage shut is
-  where
-    by_stage : (stage : FinishStage) → FinishShut handles f stage → finish_minor stage ≡ Some minor → is_open handles node.serial ≡ false
-    by_stage (FinishStage.Removing w) shut is = shut node.serial (head_found nodes f.todo node first).0
-    by_stage _ shut is = absurd (cc)
+module _ (handles : List Handle) (nodes : List Node) (o : Job) (node : Node) (minor : Minor) (first : first_node nodes o.todo ≡ Some node) (takes : Takes minor) where
+  rebalance_asks : (stage : Stage) → asked_in Course.Rebalancing stage ≡ Some minor → is_open handles node.serial ≡ false
+  rebalance_asks Stage.Asking is = absurd (takes_as Minor.QueryStop minor is takes)
+  rebalance_asks Stage.TakingBack is = absurd (takes_as Minor.CancelStop minor is takes)
+  rebalance_asks Stage.Cancelling is = absurd (takes_as Minor.CancelStop minor is takes)
+  rebalance_asks Stage.Stopping is = absurd (takes_as Minor.Stop minor is takes)
+  rebalance_asks Stage.Restarting is = absurd (takes_as Minor.Start minor is takes)
+  rebalance_asks _ is = absurd (cc)
+
+  removal_asks : (stage : Stage) → RemovalShut handles o stage → asked_in Course.Removing stage ≡ Some minor → is_open handles node.serial ≡ false
+  removal_asks Stage.Asking shut is = shut.1 node.serial (head_found nodes o.todo node first).0
+  removal_asks Stage.TakingBack shut is = absurd (takes_as Minor.CancelRemove minor is takes)
+  removal_asks Stage.Cancelling shut is = absurd (takes_as Minor.CancelRemove minor is takes)
+  removal_asks Stage.Removing shut is = shut node.serial (head_has node.serial o.todo (head_found nodes o.todo node first).0)
+  removal_asks _ shut is = absurd (cc)
+
+  surprise_asks : (stage : Stage) → SurpriseShut handles o stage → asked_in Course.Surprising stage ≡ Some minor → is_open handles node.serial ≡ false
+  surprise_asks Stage.Telling shut is = absurd (takes_as Minor.SurpriseRemoval minor is takes)
+  surprise_asks Stage.Removing shut is = shut node.serial (head_found nodes o.todo node first).0
+  surprise_asks _ shut is = absurd (cc)
+
+  finish_asks : (stage : Stage) → FinishShut handles o stage → asked_in Course.Finishing stage ≡ Some minor → is_open handles node.serial ≡ false
+  finish_asks Stage.Removing shut is = shut node.serial (head_found nodes o.todo node first).0
+  finish_asks _ shut is = absurd (cc)
+
+  asks_by : (course : Course) → JobShut handles course o → asked_in course o.stage ≡ Some minor → is_open handles node.serial ≡ false
+  asks_by Course.Rebalancing shut is = rebalance_asks o.stage is
+  asks_by Course.Removing shut is = removal_asks o.stage shut is
+  asks_by Course.Surprising shut is = surprise_asks o.stage shut is
+  asks_by Course.Finishing shut is = finish_asks o.stage shut is
 
 module _ (s : State) (kept : Kept s) where
   -- a device that starts has no handle
@@ -111,7 +113,9 @@ module _ (s : State) (kept : Kept s) where
   request_shut : (node : Node) (minor : Minor) (w : Walk) → node_at node.serial s.core.nodes ≡ Some node → Request s node minor w → Takes minor → is_open s.handles node.serial ≡ false
   request_shut node _ w at (Request.starts _ acts) takes = absurd takes
   request_shut node _ w at (Request.undoes _ acts) takes = start_shut node (ap is_idle (acting_fits s node.serial node (Phase.Removing w) at acts kept.good).1) at
-  request_shut node minor w at (Request.operates _ _ asks) takes = asked_shut s.handles s.core.nodes asks.operation node minor (running_shut s asks.operation asks.runs kept) asks.first asks.minor_is takes
+  request_shut node _ w at (Request.operates _ asks) takes =
+      let o = asks.operation in
+      asks_by s.handles s.core.nodes o node w.minor asks.first takes (course_of o.kind) (running_shut s o asks.runs kept) (asked_is o s.core.nodes w (running_good s o asks.runs kept.good).fits asks.walk)
 
 -- A device that has a handle ------------------------------------------------------------------------------
 
@@ -146,7 +150,7 @@ module _ (s : State) (label : Label) (t : State) (kept : Kept s) (k : ℕ) (h : 
   still_held _ (Origin.stacks m d ds name there acts prints) = held_stacked m.state (was_held m there)
   still_held _ (Origin.assigned m phase plan there acts search part now) = was_held m there
   still_held _ (Origin.stripped m w there request prints) = absurd (not_taken m Minor.Remove w there request tt)
-  still_held _ (Origin.commits r m runs is there) = was_held m there
+  still_held _ (Origin.commits r m runs course is there) = was_held m there
   still_held _ (Origin.joins node d below gone own) = absurd (cc)
 
   -- so it does not leave

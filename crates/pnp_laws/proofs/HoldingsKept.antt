@@ -16,15 +16,15 @@ use Rattle.pnp_model.specs.Frames.{fixed_beside}
 use Rattle.pnp_model.specs.Keyed.{changed_first}
 use Rattle.pnp_model.specs.Laws.{is_up_to_now, HoldsWhole}
 use Rattle.pnp_model.specs.Rebalances.{committed, movers, others, plan_of}
-use Rattle.pnp_model.specs.Records.{Activity, Node, Operation, Phase, Rebalance, RebalanceStage, State, Walk}
+use Rattle.pnp_model.specs.Records.{Activity, Node, Phase, State, Walk, Job, Stage, Course, course_of}
 use Rattle.pnp_model.specs.Starts.{adding, own_part}
 use Rattle.pnp_model.specs.States.{activity_at, with_phase}
 use Rattle.pnp_model.specs.Tests.{has}
 use Rattle.pnp_model.specs.Walks.{state_after}
 use Rattle.pnp_laws.specs.Effects.{ActivityEffect, Acting, Assigned, Enters, IsSearch, NodeEffect, PhaseStep, Request}
 use Rattle.pnp_laws.specs.Holdings.{HeldWell, IsWhole, WholeAt, has_plan, is_starting}
-use Rattle.pnp_laws.specs.Kept.{IsGood, OperationFits, RebalanceKeeps}
-use Rattle.pnp_laws.specs.Plans.{IsPlanned, PlanFits, PlanKept, StagePlan}
+use Rattle.pnp_laws.specs.Kept.{IsGood, RebalanceKeeps}
+use Rattle.pnp_laws.specs.Plans.{IsPlanned, PlanFits, StagePlan}
 use Rattle.pnp_laws.proofs.Kept.{none_acts}
 use Rattle.pnp_laws.proofs.Asked.{operation_asks}
 use Rattle.pnp_laws.proofs.EffectViews.{Origin, StartOrigin, acting_at, acting_fits, origin, start_origin}
@@ -37,6 +37,7 @@ use Rattle.pnp_laws.proofs.PlansKept.{mover_whole, other_after}
 use Rattle.pnp_laws.proofs.Sharing.{part_not}
 use Rattle.pnp_laws.proofs.StartSteps.{search_fits, stacked_idle}
 use Rattle.pnp_model.specs.Events as ev
+use Rattle.pnp_laws.proofs.FitsBy.{rebalance_fits, plan_by}
 
 abbrev AllHeldWell : List Node → Type 0
 AllHeldWell nodes = (k : ℕ) (n : Node) → node_at k nodes ≡ Some n → HeldWell n
@@ -79,7 +80,7 @@ waiting_well n e = record { up = λ h. absurd (let z = ap is_up_to_now e in cc);
 -- The parts of a plan ---------------------------------------------------------------------------
 
 -- a device without drivers does not move
-mover_up : (r : Rebalance) (nodes : List Node) (k : ℕ) (n : Node) → RebalanceKeeps r RebalanceStage.Committing nodes → node_at k nodes ≡ Some n → has (movers r) k ≡ true → n.state ≢ NoStack
+mover_up : (r : Job) (nodes : List Node) (k : ℕ) (n : Node) → RebalanceKeeps r Stage.Committing nodes → node_at k nodes ≡ Some n → has (movers r) k ≡ true → n.state ≢ NoStack
 mover_up r nodes k n keeps at h e =
     elim (cases_eq r.target k) [
       | inl z ↦ target_up r.wanted r.target nodes n keeps.waits (subst (λ (i : ℕ). node_at i nodes ≡ Some n) (sym z) at) e
@@ -91,7 +92,7 @@ mover_up r nodes k n keeps at h e =
           cc
     ]
 
-committed_well : (r : Rebalance) (reserved : List Res) (nodes : List Node) (k : ℕ) (n : Node) → RebalanceKeeps r RebalanceStage.Committing nodes → PlanFits r reserved nodes → node_at k nodes ≡ Some n → HeldWell n → HeldWell (committed r.wanted r.target (movers r) (plan_of r.found) n)
+committed_well : (r : Job) (reserved : List Res) (nodes : List Node) (k : ℕ) (n : Node) → RebalanceKeeps r Stage.Committing nodes → PlanFits r reserved nodes → node_at k nodes ≡ Some n → HeldWell n → HeldWell (committed r.wanted r.target (movers r) (plan_of r.found) n)
 committed_well r reserved nodes k n keeps fits at well =
     elim (member (movers r) k) [
       | inl h ↦ record { up = λ e. mover_whole r reserved nodes k n fits at h; bare = λ e. absurd (mover_up r nodes k n keeps at h e) }
@@ -117,9 +118,9 @@ module _ (s : State) (label : Label) (good : IsGood s) (planned : IsPlanned s) (
       let here = acting_at s node.serial (Phase.Starting v) good.order acts in
       old.starts node.serial here.activity here.at (ap is_starting here.is) node at
   asked_whole node _ w other at (Request.undoes v acts) = absurd (other refl)
-  asked_whole node minor w other at (Request.operates m v asks) =
+  asked_whole node _ w other at (Request.operates _ asks) =
       let fits = (running_good s asks.operation asks.runs good).fits in
-      (well node.serial node at).up ((operation_asks asks.operation s.core.nodes node minor fits asks.first asks.minor_is).up other)
+      (well node.serial node at).up ((operation_asks asks.operation s.core.nodes node w fits asks.first asks.walk).up other)
 
   well_from : (t : State) (k : ℕ) (m : Node) → Origin s label t k m → HeldWell m
   well_from t k _ (Origin.was n at) = well k n at
@@ -129,9 +130,9 @@ module _ (s : State) (label : Label) (good : IsGood s) (planned : IsPlanned s) (
   well_from t k _ (Origin.stacks n d ds name at acts prints) = waiting_well (with_stack (n.stack ++ d ∷ []) (stacked n.state) n) (stacked_idle n.state (acting_fits s k n (Phase.Adding (d ∷ ds)) at acts good).1)
   well_from t k _ (Origin.assigned n phase plan at acts search part now) = waiting_well (with_holds (own_part plan) n) (search_fits phase n.state search (acting_fits s k n phase at acts good).1)
   well_from t k _ (Origin.stripped n w at request prints) = record { up = λ h. absurd (cc); bare = λ h. refl }
-  well_from t k _ (Origin.commits r n runs is at) =
-      let keeps = subst (λ (x : RebalanceStage). RebalanceKeeps r x s.core.nodes) is (subst (λ (x : Option Operation). OperationFits x s.core.nodes) runs good.fits) in
-      let fits = subst (λ (x : RebalanceStage). StagePlan r x s.core.reserved s.core.nodes) is (subst (λ (x : Option Operation). PlanKept x s.core.reserved s.core.nodes) runs planned) in
+  well_from t k _ (Origin.commits r n runs course is at) =
+      let keeps = subst (λ (x : Stage). RebalanceKeeps r x s.core.nodes) is (rebalance_fits s r good runs course) in
+      let fits = subst (λ (x : Stage). StagePlan r x s.core.reserved s.core.nodes) is (plan_by s r planned runs course) in
       committed_well r s.core.reserved s.core.nodes k n keeps fits at (well k n at)
   well_from t k _ (Origin.joins node d below gone own) = record { up = λ h. absurd (cc); bare = λ h. refl }
 
@@ -152,7 +153,7 @@ module _ (s : State) (label : Label) (good : IsGood s) (planned : IsPlanned s) (
     not_stripped : (n : Node) (minor : Minor) (w : Walk) → n.serial ≡ k → minor ≡ Minor.Remove → Request s n minor w → ⊥
     not_stripped n _ w own is (Request.starts v acts) = cc
     not_stripped n _ w own is (Request.undoes v acts) = not_acting (Phase.Removing v) (subst (λ (i : ℕ). Acting s i (Phase.Removing v)) own acts) refl
-    not_stripped n minor w own is (Request.operates i v asks) = none_acts s asks.runs.before k a good asks.runs.runs under
+    not_stripped n _ w own is (Request.operates _ asks) = none_acts s asks.runs.before k a good asks.runs.runs under
 
     starts_from : (t : State) (m : Node) → Origin s label t k m → Whole m.reqs m.holds
     starts_from t _ (Origin.was n at) = before n at
@@ -161,7 +162,7 @@ module _ (s : State) (label : Label) (good : IsGood s) (planned : IsPlanned s) (
     starts_from t _ (Origin.stacks n d ds name at acts prints) = before n at
     starts_from t _ (Origin.assigned n phase plan at acts search part now) = absurd (not_acting phase acts (search_quiet phase search))
     starts_from t _ (Origin.stripped n w at request prints) = absurd (not_stripped n Minor.Remove w (own_serial k n s.core.nodes at) refl request)
-    starts_from t _ (Origin.commits r n runs is at) = absurd (none_acts s (Operation.Rebalancing r) k a good runs under)
+    starts_from t _ (Origin.commits r n runs course is at) = absurd (none_acts s r k a good runs under)
     starts_from t _ (Origin.joins node d below gone own) = absurd (let at = (good.phases k a under).1 in cc)
 
     kept_starts : (t : State) → NodeEffect s label t → WholeAt k t.core.nodes
@@ -169,15 +170,15 @@ module _ (s : State) (label : Label) (good : IsGood s) (planned : IsPlanned s) (
 
   -- Starts after it ---------------------------------------------------------------------
 
-  restarted : (t : State) (r : Rebalance) (plan : List (List Res)) → s.operation ≡ Some (Operation.Rebalancing r) → r.stage ≡ RebalanceStage.Ending → r.found ≡ assignment plan → t.core.nodes ≡ s.core.nodes → WholeAt r.target t.core.nodes
-  restarted t r plan runs is found nodes =
-      let kept = subst (λ (x : RebalanceStage). StagePlan r x s.core.reserved s.core.nodes) is (subst (λ (x : Option Operation). PlanKept x s.core.reserved s.core.nodes) runs planned) in
+  restarted : (t : State) (r : Job) (plan : List (List Res)) → s.operation ≡ Some r → course_of r.kind ≡ Course.Rebalancing → r.stage ≡ Stage.Ending → r.found ≡ assignment plan → t.core.nodes ≡ s.core.nodes → WholeAt r.target t.core.nodes
+  restarted t r plan runs course is found nodes =
+      let kept = subst (λ (x : Stage). StagePlan r x s.core.reserved s.core.nodes) is (plan_by s r planned runs course) in
       subst (WholeAt r.target) (sym nodes) (kept (ap has_plan found))
 
   entered_starts : (t : State) (k : ℕ) (phase : Phase) → Enters s k t phase → is_starting phase ≡ true → WholeAt k t.core.nodes
   entered_starts t k phase (Enters.installs drivers chosen drops clears) starts = absurd (let quiet = adding_quiet drivers in cc)
-  entered_starts t k phase (Enters.restarts r plan runs plain is target found nodes) starts = subst (λ (i : ℕ). WholeAt i t.core.nodes) target (restarted t r plan runs is found nodes)
-  entered_starts t k phase (Enters.undoes r runs plain target) starts = absurd (cc)
+  entered_starts t k phase (Enters.restarts r plan runs course plain is target found nodes) starts = subst (λ (i : ℕ). WholeAt i t.core.nodes) target (restarted t r plan runs course is found nodes)
+  entered_starts t k phase (Enters.undoes r runs course plain target) starts = absurd (cc)
 
   fitted : (t : State) (k : ℕ) (node : Node) (plan : List (List Res)) → Assigned s node plan → node.serial ≡ k → t.core.nodes ≡ changed_first (is_node k) (with_holds (own_part plan)) s.core.nodes → WholeAt k t.core.nodes
   fitted t k node plan part own nodes m g =

@@ -17,7 +17,7 @@ use Rattle.pnp_labels.specs.declared.label.OpKind.{OpKind}
 use Rattle.pnp_model.specs.Books.{driver_named, rack_reply}
 use Rattle.pnp_model.specs.Cores.{node_at, set_problem}
 use Rattle.pnp_model.specs.Frames.{asked, core_after}
-use Rattle.pnp_model.specs.Records.{Activity, Choice, Core, Device, Duty, Found, Node, Operation, Phase, Settings, State, Step, Task, Walk, doing_map}
+use Rattle.pnp_model.specs.Records.{Activity, Choice, Core, Device, Duty, Found, Node, Phase, Settings, State, Step, Task, Walk, doing_map, Job}
 use Rattle.pnp_model.specs.Records.Phase.{Adding, Searching, Starting, Removing, Due}
 use Rattle.pnp_model.specs.Rebalances.{begun_change}
 use Rattle.pnp_model.specs.States.{activity_at, device_born}
@@ -179,7 +179,7 @@ module _ (s : State) where
     changes_born : (o : Option Device) → First s (Duty.Begins OpKind.Change) node.serial → node.state ≡ Started → device_born node.born s.world ≡ o → TaskStep s (tk.change_born s node o)
     changes_born None first state e = TaskStep.skips _ node.serial node.serial first refl
     changes_born (Some d) first state e =
-        subst (λ (x : Option Device). TaskStep s (tk.begin s OpKind.Change node (Operation.Rebalancing (begun_change s.core node (required s node x))))) e
+        subst (λ (x : Option Device). TaskStep s (tk.begin s OpKind.Change node (begun_change s.core node (required s node x)))) e
         (TaskStep.begins OpKind.Change node first alone at (state, ap is_some e))
 
     changes : (x : DevState) → First s (Duty.Begins OpKind.Change) node.serial → node.state ≡ x → TaskStep s (tk.change_task s node x)
@@ -216,7 +216,7 @@ pub data ActivityStep (c : Core) (node : Node) : Phase → st.StartMove → Type
 -- What a step of the machine is ----------------------------------------------------------
 
 pub data MachineStep (s : State) : Step → Type 0 where
-  operates : (o : Operation) (step : Step) → s.operation ≡ Some o → TakenStep s o step → MachineStep s step
+  operates : (o : Job) (step : Step) → s.operation ≡ Some o → TakenStep s o step → MachineStep s step
   starts : (node : Node) (phase : Phase) (m : st.StartMove) → node_at node.serial s.core.nodes ≡ Some node → Acting s node.serial phase → ActivityStep s.core node phase m → MachineStep s (ma.start_lifted s node.serial m)
   does : (step : Step) → s.operation ≡ None → TaskStep s step → MachineStep s step
 
@@ -278,7 +278,7 @@ module _ (settings : Settings) (s : State) (none : s.operation ≡ None) where
 pub machine_step : (settings : Settings) (s : State) (step : Step) → ma.IsStep settings (ma.next settings s) step → MachineStep s step
 machine_step settings s step is = by_operation s.operation refl
   where
-    by_operation : (o : Option Operation) → s.operation ≡ o → MachineStep s step
+    by_operation : (o : Option Job) → s.operation ≡ o → MachineStep s step
     by_operation (Some o) runs = MachineStep.operates o step runs (operation_step settings s o step runs is)
     by_operation None none =
-        all_step (MachineStep s) settings (ma.next_of settings s None) step (idle_next settings s none (find ma.is_ready s.activities) refl) (subst (λ (x : Option Operation). ma.IsStep settings (ma.next_of settings s x) step) none is)
+        all_step (MachineStep s) settings (ma.next_of settings s None) step (idle_next settings s none (find ma.is_ready s.activities) refl) (subst (λ (x : Option Job). ma.IsStep settings (ma.next_of settings s x) step) none is)

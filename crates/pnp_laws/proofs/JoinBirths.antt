@@ -1,7 +1,7 @@
 -- What is kept of births: by a step, by a join, and by an event.
 use Rattle.std.proofs.Common.{ℕ, suc, ◌+◌, ◌<◌, ◌≤◌, ◌≡◌, ◌==◌, inl, inr, Bool, true, false, not, ◌&&◌, ◌||◌, cond, List, [], ◌∷◌, ◌++◌, Option, Some, None, refl, sym, ap, ◌∙◌, subst, arith, nat_lt}
 use Rattle.std.proofs.lemmas.Bool.Decides.{nat_tests}
-use Rattle.pnp_model.specs.Records.{Node, Device, Activity, State, Operation, Duty}
+use Rattle.pnp_model.specs.Records.{Node, Device, Activity, State, Duty, Job}
 use Rattle.pnp_model.specs.Cores.{node_at}
 use Rattle.pnp_model.specs.States.{activity_at, new_child}
 use Rattle.pnp_model.specs.Tasks.{joins, join_step, has_born}
@@ -153,7 +153,7 @@ born_joins s node d h =
                 let same : node ≡ p = some_same (node_at node.serial (s.core.nodes ++ new ∷ [])) node p kept at_node in
                 ap (λ (z : Node). z.born) (sym same) ∙ sym u.0 ∙ ap (λ (z : Device). z.parent) (sym one)
           ];
-      leaving = subst (λ (o : Option Operation). Leaving o (join_step s node d).state.core.nodes s.world) (sym h.none) tt;
+      leaving = subst (λ (o : Option Job). Leaving o (join_step s node d).state.core.nodes s.world) (sym h.none) tt;
     }
   where
     now : (n : ℕ) → nat_lt n (n + 1) ≡ true
@@ -193,7 +193,7 @@ new_dead s node d h = by_tests (closed s.operation s.next_serial) (some_there (a
 pub could_join : (s : State) (node : Node) (d : Device) → Joining s node d → (lives s d.parent && not (has_born d.born s.core.nodes)) ≡ true
 could_join s node d h =
     let u = joins_is node.born s.core.nodes d h.join in
-    let live_node : is_live s node ≡ true = live_is s node (ap (λ (o : Option Operation). closed o node.serial) h.none) (inl (ap is_barren h.up)) in
+    let live_node : is_live s node ≡ true = live_is s node (ap (λ (o : Option Job). closed o node.serial) h.none) (inl (ap is_barren h.up)) in
     both_true (lives s d.parent) (not (has_born d.born s.core.nodes))
     (any_from (λ n. n.born == d.parent && is_live s n) s.core.nodes node.serial node h.at (both_true (node.born == d.parent) (is_live s node) (let e = u.0 in grind (arith, nat_tests)) live_node)) (ap not u.1)
 

@@ -2,7 +2,7 @@
 use Rattle.std.proofs.Common.{ℕ, suc, ◌+◌, ◌<◌, ◌≤◌, ◌≡◌, ◌≢◌, ◌==◌, ◌⊎◌, inl, inr, Bool, true, false, not, ◌&&◌, ◌||◌, cond, List, [], ◌∷◌, Option, Some, None, refl, sym, ap, ◌∙◌, subst, arith, nat_lt}
 use Rattle.std.proofs.lemmas.Bool.{cases_eq}
 use Rattle.std.proofs.lemmas.Bool.Decides.{nat_tests}
-use Rattle.pnp_model.specs.Records.{Node, Device, State, Step, Operation, Duty}
+use Rattle.pnp_model.specs.Records.{Node, Device, State, Step, Duty, Job}
 use Rattle.pnp_model.specs.Cores.{node_at}
 use Rattle.pnp_model.specs.Tasks.{join_step, has_born}
 use Rattle.pnp_model.specs.States.{new_child}
@@ -176,7 +176,7 @@ up_shut s node d good_t h b (n, at, born, up, bears) =
       | inl old ↦
           let one = h.born.apart m.0.serial n.serial m.0 n old at same_born in
           let same : m.0 ≡ n = some_same (node_at m.0.serial s.core.nodes) m.0 n old (subst (λ (i : ℕ). node_at i s.core.nodes ≡ Some n) (sym one) at) in
-          let live : is_live s n ≡ true = live_is s n (ap (λ (o : Option Operation). closed o n.serial) h.none) (inl bears) in
+          let live : is_live s n ≡ true = live_is s n (ap (λ (o : Option Job). closed o n.serial) h.none) (inl bears) in
           let now : live_at t m.0.serial ≡ true = ap (is_alive t) m.1 ∙ ap (λ (z : Node). is_live s z) same ∙ live in
           let dead = not_true (live_at t m.0.serial) start.0 in
           cc

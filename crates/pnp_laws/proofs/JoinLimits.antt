@@ -3,7 +3,7 @@ use Rattle.std.proofs.Common.{ℕ, zero, suc, ◌+◌, ◌*◌, ◌≤◌, ◌�
 use Rattle.std.specs.List.{list_any}
 use Rattle.std.proofs.lemmas.Bool.{cases_eq}
 use Rattle.std.proofs.lemmas.Bool.Decides.{nat_tests}
-use Rattle.pnp_model.specs.Records.{Device, Node, Driver, Task, State, Step, Settings, Operation, Duty}
+use Rattle.pnp_model.specs.Records.{Device, Node, Driver, Task, State, Step, Settings, Duty, Job}
 use Rattle.pnp_model.specs.Cores.{node_at}
 use Rattle.pnp_model.specs.States.{activity_at, drop_task}
 use Rattle.pnp_model.specs.Runs.{Entry, Goes, Run, printed, opening}
@@ -19,18 +19,20 @@ use Rattle.pnp_laws.proofs.EventChanges.{Answered, Outside, happens_outside, sti
 use Rattle.pnp_laws.proofs.EffectsOfEvents.{event_effect}
 use Rattle.pnp_laws.proofs.RunsStand.{Kept, kept_goes, opening_kept}
 use Rattle.pnp_laws.proofs.Joins.{starts, start_cost, closed, some_there, sub_is, any_from, any_at, Born, HasRoom}
-use Rattle.pnp_laws.proofs.JoinSteps.{answer_closed, cheaper_pushed, joined_none, live_is, live_from, some_is, starts_pushed}
+use Rattle.pnp_laws.proofs.JoinSteps.{closed_walked, cheaper_pushed, joined_none, live_is, live_from, some_is, starts_pushed}
 use Rattle.pnp_laws.proofs.JoinMachine.{born_goes, flows_dropped, opening_born, step_goes}
 use Rattle.pnp_laws.proofs.JoinCounts.{reach_room, reach_less, is_alive, live_at, one_of, start_count, is_to_start, opens_at, is_outside, may_join, spare, total, spare_at, spares, join_price, total_less, spare_most, spare_less, spares_less, one_is, other_is, flows_price}
 use Rattle.pnp_laws.proofs.JoinRooms.{event_room}
 use Rattle.pnp_laws.proofs.Truths.{and_both, both_true, not_true}
 use Rattle.pnp_model.specs.Events as ev
+use Rattle.pnp_model.specs.Walks.{after}
+use Rattle.std.specs.Option.{option_map}
 
 -- Who is live after an event -----------------------------------------------------------------------------------
 
-answered_closed : (old new : Option Operation) (k : ℕ) → Answered old new → closed new k ≡ closed old k
-answered_closed old new k (inl e) = ap (λ (o : Option Operation). closed o k) e
-answered_closed old new k (inr (ok, o, e, g)) = ap (λ (x : Option Operation). closed x k) g ∙ answer_closed (ev.answer_of ok) o k ∙ sym (ap (λ (x : Option Operation). closed x k) e)
+answered_closed : (old new : Option Job) (k : ℕ) → Answered old new → closed new k ≡ closed old k
+answered_closed old new k (inl e) = ap (λ (o : Option Job). closed o k) e
+answered_closed old new k (inr (ok, o, e, g)) = ap (λ (x : Option Job). closed x k) g ∙ closed_walked o (option_map (λ w. after w (ev.answer_of ok)) o.walk) k ∙ sym (ap (λ (x : Option Job). closed x k) e)
 
 live_outside : (s : State) (step : Step) → Outside s step → (k : ℕ) → live_at step.state k ≡ true → live_at s k ≡ true
 live_outside s step out k h =

@@ -3,7 +3,7 @@ use Rattle.std.proofs.Common.{ℕ, drop, ◌+◌, ◌≤◌, ◌≡◌, ◌≢�
 use Rattle.std.specs.List.{find, slice_get}
 use Rattle.std.proofs.lemmas.Bool.{cases_eq}
 use Rattle.pnp_model.specs.Keyed.{changed_first, without_first}
-use Rattle.pnp_model.specs.Records.{Activity, Device, Duty, Node, Operation, Phase, Removal, RemovalStage, State, Step, Task}
+use Rattle.pnp_model.specs.Records.{Activity, Course, Device, Duty, Job, Node, Phase, Stage, State, Step, Task, Walk, course_of}
 use Rattle.pnp_model.specs.Records.Phase.{Adding}
 use Rattle.pnp_model.specs.Cores.{node_at}
 use Rattle.pnp_model.specs.Diagram.{Change, FollowsDiagram, Row}
@@ -14,19 +14,18 @@ use Rattle.pnp_model.specs.Tasks.{joins, join_step}
 use Rattle.pnp_model.specs.Tests.{has}
 use Rattle.pnp_labels.specs.declared.states.DevState.{DevState}
 use Rattle.pnp_labels.specs.declared.states.DevState.TheVariants.{Started}
-use Rattle.pnp_labels.specs.declared.words.Answer.{Answer}
 use Rattle.pnp_labels.specs.declared.words.Minor.{Minor}
 use Rattle.pnp_labels.specs.declared.label.Label.{Label}
 use Rattle.pnp_laws.specs.Effects.{ActivityEffect, Chosen, Effect, Enters, JoinEffect, Origin, TaskEffect, WorldEffect}
 use Rattle.pnp_laws.specs.Words.{IsNoJoin, joined}
 use Rattle.pnp_laws.specs.Kept.{Fits, InOrder, IsGood, OperationFits, RemovalKeeps}
 use Rattle.pnp_laws.proofs.EffectViews.{Turns, acting_at, entered_either, state_from}
+use Rattle.pnp_laws.proofs.FitsBy.{fits_by}
 use Rattle.pnp_laws.proofs.Lists.{head_found, head_has}
 use Rattle.pnp_laws.proofs.Lookups.{some_same, own_serial, found_self, phase_from, ended_same, ended_other, first_is}
 use Rattle.pnp_laws.proofs.Standing.{Kept}
 use Rattle.pnp_laws.proofs.Standing.{Sound}
-use Rattle.pnp_laws.proofs.Joins.{starts, start_cost, start_of, closed, removal_closed, is_barren, some_there, is_live, In, Gone, Stays, sub_stays, Flows}
-use Rattle.pnp_model.specs.Events as ev
+use Rattle.pnp_laws.proofs.Joins.{starts, start_cost, start_of, closed, closed_in, removal_closed, is_barren, some_there, is_live, In, Gone, Stays, sub_stays, Flows}
 
 pub joined_none : (label : Label) → IsNoJoin label → joined label ≡ 0
 joined_none (Label.Join k path) h = absurd h
@@ -57,19 +56,17 @@ row_up : (minor : Minor) (bad : Bool) (a b : DevState) → Row a minor bad b →
 row_up _ _ _ _ Row.remove_surprised up = absurd (cc)
 row_up _ _ _ _ _ up = refl
 
--- an answer closes nothing and opens nothing
-stage_closed : (answer : Answer) (o : Removal) (stage : RemovalStage) (k : ℕ) → removal_closed o (ev.completed_removal answer stage) k ≡ removal_closed o stage k
-stage_closed answer o (RemovalStage.Asking w) k = refl
-stage_closed answer o _ k = refl
+-- a request that gets an answer closes nothing and opens nothing
+walked_closed : (o : Job) (walk : Option Walk) (stage : Stage) (k : ℕ) → removal_closed (record o { walk = walk }) stage k ≡ removal_closed o stage k
+walked_closed o walk Stage.Removing k = refl
+walked_closed o walk _ k = refl
 
-with_closed : (o p : Removal) (stage : RemovalStage) (k : ℕ) → p.set ≡ o.set → removal_closed p stage k ≡ removal_closed o stage k
-with_closed o p (RemovalStage.Removing w) k e = ap (λ (ks : List ℕ). has ks k) e
-with_closed o p RemovalStage.Settling k e = ap (λ (ks : List ℕ). has ks k) e
-with_closed o p _ k e = refl
-
-pub answer_closed : (answer : Answer) (o : Operation) (k : ℕ) → closed (Some (ev.completed answer o)) k ≡ closed (Some o) k
-answer_closed answer (Operation.Removing o) k = with_closed o (record o { stage = ev.completed_removal answer o.stage }) (ev.completed_removal answer o.stage) k refl ∙ stage_closed answer o o.stage k
-answer_closed answer _ k = refl
+pub closed_walked : (o : Job) (walk : Option Walk) (k : ℕ) → closed (Some (record o { walk = walk })) k ≡ closed (Some o) k
+closed_walked o walk k = by_course (course_of o.kind)
+  where
+    by_course : (course : Course) → closed_in course (record o { walk = walk }) k ≡ closed_in course o k
+    by_course Course.Removing = walked_closed o walk o.stage k
+    by_course _ = refl
 
 -- What is known of a step --------------------------------------------------------------------------------
 
@@ -134,7 +131,7 @@ tasks_cheaper s t serial (TaskEffect.same e) cost = let h = ap (starts cost) e i
 tasks_cheaper s t serial (TaskEffect.appended task origin e) cost = let h = ap (starts cost) e in let g = cheaper_pushed s.tasks task (origin_free s task.kind task.serial origin) cost in omega arith
 tasks_cheaper s t serial (TaskEffect.joins next e) cost = absurd (omega arith)
 tasks_cheaper s t serial (TaskEffect.dropped task none first surprises e) cost = let h = ap (starts cost) e in let g = dropped_cheaper s.tasks cost in omega arith
-tasks_cheaper s t serial (TaskEffect.put_first node r runs is first e) cost = let h = ap (starts cost) e in omega arith
+tasks_cheaper s t serial (TaskEffect.put_first node r runs course is first e) cost = let h = ap (starts cost) e in omega arith
 
 -- Activities --------------------------------------------------------------------------------------------
 
@@ -172,10 +169,10 @@ module _ (s : State) (label : Label) (t : State) (kept : Kept s) (knows : Knows 
   serial_same = let a = effect.serial in let b = joined_none label no_join in omega arith
 
   -- a device that leaves the world is not the root
-  not_root : (node : Node) (o : Removal) → s.operation ≡ Some (Operation.Removing o) → o.stage ≡ RemovalStage.Settling → first_node s.core.nodes o.todo ≡ Some node → node.serial ≢ 0
-  not_root node o runs is first e =
-      let fits : RemovalKeeps o o.stage s.core.nodes = subst (λ (x : Option Operation). OperationFits x s.core.nodes) runs kept.good.fits in
-      let keeps : RemovalKeeps o RemovalStage.Settling s.core.nodes = subst (λ (x : RemovalStage). RemovalKeeps o x s.core.nodes) is fits in
+  not_root : (node : Node) (o : Job) → s.operation ≡ Some o → course_of o.kind ≡ Course.Removing → o.stage ≡ Stage.Settling → first_node s.core.nodes o.todo ≡ Some node → node.serial ≢ 0
+  not_root node o runs course is first e =
+      let fits : RemovalKeeps o o.stage s.core.nodes = fits_by Course.Removing o s.core.nodes course (subst (λ (x : Option Job). OperationFits x s.core.nodes) runs kept.good.fits) in
+      let keeps : RemovalKeeps o Stage.Settling s.core.nodes = subst (λ (x : Stage). RemovalKeeps o x s.core.nodes) is fits in
       let there = keeps.asks node.serial (head_has node.serial o.todo (head_found s.core.nodes o.todo node first).0) in
       let here = subst (λ (i : ℕ). has o.set i ≡ true) e there in
       let rootless = keeps.rootless in
@@ -185,9 +182,9 @@ module _ (s : State) (label : Label) (t : State) (kept : Kept s) (knows : Knows 
   world_stays (WorldEffect.same world next) = (inl world, next)
   world_stays (WorldEffect.plugged d plug world next) = absurd (let e = plug.event in cc)
   world_stays (WorldEffect.changed n path reqs prints at up is there e world next) = absurd (cc)
-  world_stays (WorldEffect.unplugged born (node, o, runs, is, first, own) world next) =
+  world_stays (WorldEffect.unplugged born (node, o, runs, course, is, first, own) world next) =
       let there = (head_found s.core.nodes o.todo node first).1 in
-      (inr (node, there, not_root node o runs is first, subst (λ (b : ℕ). t.world ≡ without_those (b ∷ []) s.world) (sym own) world), next)
+      (inr (node, there, not_root node o runs course is first, subst (λ (b : ℕ). t.world ≡ without_those (b ∷ []) s.world) (sym own) world), next)
 
   -- who has drivers now had them, or was being started
   had_drivers : (k : ℕ) (n m : Node) → node_at k s.core.nodes ≡ Some n → node_at k t.core.nodes ≡ Some m → is_barren m.state ≡ false → (is_barren n.state ≡ false) ⊎ (some_there (activity_at k s.activities) ≡ true)
@@ -248,8 +245,8 @@ module _ (s : State) (label : Label) (t : State) (kept : Kept s) (knows : Knows 
   entering (ActivityEffect.ends j phase acts over e) =
       none_begins (λ k m at h. inl (active_ended j k s.activities kept.good.order (ap (λ (x : List Activity). some_there (activity_at k x)) (sym e) ∙ h)))
   entering (ActivityEffect.enters j _ (Enters.installs drivers chosen drops clears) e) = installed j _ drivers chosen drops e
-  entering (ActivityEffect.enters j _ (Enters.restarts r plan runs plain is target found nodes) e) = reentered j _ e (λ x fits. ap is_barren fits)
-  entering (ActivityEffect.enters j _ (Enters.undoes r runs plain target) e) = reentered j _ e (λ x fits. ap is_barren fits)
+  entering (ActivityEffect.enters j _ (Enters.restarts r plan runs course plain is target found nodes) e) = reentered j _ e (λ x fits. ap is_barren fits)
+  entering (ActivityEffect.enters j _ (Enters.undoes r runs course plain target) e) = reentered j _ e (λ x fits. ap is_barren fits)
 
   lives_on : (b : Entering s t) (k : ℕ) (n m : Node) → node_at k s.core.nodes ≡ Some n → node_at k t.core.nodes ≡ Some m → is_live t m ≡ true → (is_live s n ≡ true) ⊎ (b.start ≡ Some n)
   lives_on b k n m was at live =

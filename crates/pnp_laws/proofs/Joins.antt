@@ -6,7 +6,7 @@ use Rattle.std.proofs.lemmas.Bool.Decides.{nat_tests}
 use Rattle.resource_reqs.specs.Resources.{Reqs}
 use Rattle.pnp_model.specs.Keyed.{changed_first}
 use Rattle.pnp_model.specs.Tests.{has}
-use Rattle.pnp_model.specs.Records.{Node, Device, Task, Activity, State, Operation, Removal, RemovalStage, Finish, FinishStage, Duty}
+use Rattle.pnp_model.specs.Records.{Node, Device, Task, Activity, State, Duty, Course, Job, Stage, course_of}
 use Rattle.pnp_model.specs.Cores.{node_at}
 use Rattle.pnp_model.specs.Frames.{first_node}
 use Rattle.pnp_model.specs.Handles.{was_told}
@@ -34,19 +34,19 @@ abbrev pub unborn : ℕ → ℕ → ℕ
 unborn next k = cond (nat_lt k next) 0 1
 
 -- the operation takes the drivers of these devices
-abbrev pub removal_closed : Removal → RemovalStage → ℕ → Bool
-removal_closed o RemovalStage.Next k = false
-removal_closed o (RemovalStage.Asking w) k = false
-removal_closed o (RemovalStage.TakingBack w) k = false
-removal_closed o (RemovalStage.Cancelling w) k = false
-removal_closed o (RemovalStage.Removing w) k = has o.set k
-removal_closed o RemovalStage.Settling k = has o.set k
-removal_closed o RemovalStage.Ending k = false
+abbrev pub removal_closed : Job → Stage → ℕ → Bool
+removal_closed o Stage.Removing k = has o.set k
+removal_closed o Stage.Settling k = has o.set k
+removal_closed o _ k = false
 
-abbrev pub closed : Option Operation → ℕ → Bool
-closed (Some (Operation.Removing o)) k = removal_closed o o.stage k
-closed (Some (Operation.Surprising o)) k = has o.set k
-closed _ k = false
+abbrev pub closed_in : Course → Job → ℕ → Bool
+closed_in Course.Removing o k = removal_closed o o.stage k
+closed_in Course.Surprising o k = has o.set k
+closed_in _ o k = false
+
+abbrev pub closed : Option Job → ℕ → Bool
+closed None k = false
+closed (Some o) k = closed_in (course_of o.kind) o k
 
 -- without drivers, or told that it has gone
 abbrev pub is_barren : DevState → Bool
@@ -171,14 +171,18 @@ HasRoom [] = ⊥
 HasRoom (d ∷ ds) = (d.born ≡ 0) × (length ds ≤ 4096)
 
 -- the device that leaves in a finish is not in the world, or goes with a parent that was told so
-abbrev pub stage_leaving : Finish → FinishStage → List Node → List Device → Type 0
-stage_leaving f FinishStage.Leaving nodes world =
+abbrev pub stage_leaving : Job → Stage → List Node → List Device → Type 0
+stage_leaving f Stage.Leaving nodes world =
     (n : Node) → first_node nodes f.todo ≡ Some n → (was_told (node_at n.parent nodes) ≡ true) ⊎ (is_in_world world n.born ≡ false)
 stage_leaving f _ nodes world = Unit {0}
 
-abbrev pub Leaving : Option Operation → List Node → List Device → Type 0
-Leaving (Some (Operation.Finishing f)) nodes world = stage_leaving f f.stage nodes world
-Leaving _ nodes world = Unit {0}
+abbrev pub LeavingIn : Course → Job → List Node → List Device → Type 0
+LeavingIn Course.Finishing f nodes world = stage_leaving f f.stage nodes world
+LeavingIn _ o nodes world = Unit {0}
+
+abbrev pub Leaving : Option Job → List Node → List Device → Type 0
+Leaving None nodes world = Unit {0}
+Leaving (Some o) nodes world = LeavingIn (course_of o.kind) o nodes world
 
 pub record Born (s : State) : Type 0 where
   pub room : HasRoom s.world

@@ -3,14 +3,14 @@ use Rattle.std.proofs.Common.{ℕ, ◌+◌, ◌≡◌, ◌≢◌, inl, inr, List
 use Rattle.std.proofs.lemmas.Bool.{cases_eq}
 use Rattle.std.specs.Option.{option_map}
 use Rattle.pnp_model.specs.Keyed.{changed_first, without_first}
-use Rattle.pnp_model.specs.Records.{Node, Activity, State, Operation}
+use Rattle.pnp_model.specs.Records.{Node, Activity, State, Job}
 use Rattle.pnp_model.specs.Cores.{is_node, node_at}
 use Rattle.pnp_model.specs.States.{activity_at}
 use Rattle.pnp_laws.specs.Kept.{Good, Lawful, HasStackOf, Fits, InOrder, Alone, OperationFits, IsGood}
 use Rattle.pnp_laws.proofs.Lookups.{node_from, node_changed_same, node_changed_other, Ascending-changed, Ascending-map, Ascending-joined, Ascending-without, joined_from, joined_keeps, left_from, map_from}
 
 -- a step, by its parts
-pub lawful_by : (t : State) (next : ℕ) (nodes : List Node) (activities : List Activity) (operation : Option Operation) →
+pub lawful_by : (t : State) (next : ℕ) (nodes : List Node) (activities : List Activity) (operation : Option Job) →
     t.next_serial ≡ next → t.core.nodes ≡ nodes → t.activities ≡ activities → t.operation ≡ operation →
     Good next nodes activities operation → Lawful t
 lawful_by t next nodes activities operation a b c d good =
@@ -19,11 +19,11 @@ lawful_by t next nodes activities operation a b c d good =
           subst (λ (x : ℕ). Good x t.core.nodes t.activities t.operation) (sym a)
           (subst (λ (x : List Node). Good next x t.activities t.operation) (sym b)
           (subst (λ (x : List Activity). Good next nodes x t.operation) (sym c)
-          (subst (λ (x : Option Operation). Good next nodes activities x) (sym d) good)));
+          (subst (λ (x : Option Job). Good next nodes activities x) (sym d) good)));
     }
 
 -- one node is changed, with its activity, and the operation goes on
-pub Good_changed : (next j : ℕ) (f : Node → Node) (n : Node) (nodes : List Node) (acts new : List Activity) (o p : Option Operation) → ((x : Node) → (f x).serial ≡ x.serial) →
+pub Good_changed : (next j : ℕ) (f : Node → Node) (n : Node) (nodes : List Node) (acts new : List Activity) (o p : Option Job) → ((x : Node) → (f x).serial ≡ x.serial) →
     node_at j nodes ≡ Some n → HasStackOf j (f n).state (f n).stack → InOrder 0 new → ((k : ℕ) → j ≢ k → activity_at k new ≡ activity_at k acts) →
     ((a : Activity) → activity_at j new ≡ Some a → (j ≢ 0) × Fits a.phase (f n).state) → Alone p new → OperationFits p (changed_first (is_node j) f nodes) →
     Good next nodes acts o → Good next (changed_first (is_node j) f nodes) new p
@@ -61,14 +61,14 @@ Good_changed next j f n nodes acts new o p keeps at stack order other here alone
     }
 
 -- no node is changed
-pub Good_nodes : (next : ℕ) (nodes : List Node) (acts new : List Activity) (o p : Option Operation) → InOrder 0 new →
+pub Good_nodes : (next : ℕ) (nodes : List Node) (acts new : List Activity) (o p : Option Job) → InOrder 0 new →
     ((k : ℕ) (a : Activity) → activity_at k new ≡ Some a → (n : Node) × (node_at k nodes ≡ Some n) × (k ≢ 0) × Fits a.phase n.state) → Alone p new → OperationFits p nodes →
     Good next nodes acts o → Good next nodes new p
 Good_nodes next nodes acts new o p order phases alone fits good =
     record { begun = good.begun; serials = good.serials; below = good.below; stacks = good.stacks; order = order; phases = phases; alone = alone; fits = fits }
 
 -- a node joins
-pub Good_joined : (hi : ℕ) (new : Node) (nodes : List Node) (acts : List Activity) (o : Option Operation) → new.serial ≡ hi → new.stack ≡ [] → HasStackOf hi new.state new.stack →
+pub Good_joined : (hi : ℕ) (new : Node) (nodes : List Node) (acts : List Activity) (o : Option Job) → new.serial ≡ hi → new.stack ≡ [] → HasStackOf hi new.state new.stack →
     OperationFits o (nodes ++ new ∷ []) → Good hi nodes acts o → Good (hi + 1) (nodes ++ new ∷ []) acts o
 Good_joined hi new nodes acts o e bare stack fits good =
     record {
@@ -91,7 +91,7 @@ Good_joined hi new nodes acts o e bare stack fits good =
     }
 
 -- a node leaves, in an operation
-pub Good_left : (next j : ℕ) (nodes : List Node) (o p : Option Operation) → OperationFits p (without_first (is_node j) nodes) → Alone p [] →
+pub Good_left : (next j : ℕ) (nodes : List Node) (o p : Option Job) → OperationFits p (without_first (is_node j) nodes) → Alone p [] →
     Good next nodes [] o → Good next (without_first (is_node j) nodes) [] p
 Good_left next j nodes o p fits alone good =
     record {
@@ -106,7 +106,7 @@ Good_left next j nodes o p fits alone good =
     }
 
 -- all nodes are changed, in an operation, but for states and stacks
-pub Good_mapped : (next : ℕ) (f : Node → Node) (nodes : List Node) (o p : Option Operation) → ((x : Node) → (f x).serial ≡ x.serial) → ((x : Node) → (f x).state ≡ x.state) → ((x : Node) → (f x).stack ≡ x.stack) →
+pub Good_mapped : (next : ℕ) (f : Node → Node) (nodes : List Node) (o p : Option Job) → ((x : Node) → (f x).serial ≡ x.serial) → ((x : Node) → (f x).state ≡ x.state) → ((x : Node) → (f x).stack ≡ x.stack) →
     OperationFits p (map f nodes) → Alone p [] → Good next nodes [] o → Good next (map f nodes) [] p
 Good_mapped next f nodes o p keeps state stack fits alone good =
     record {
@@ -127,8 +127,8 @@ Good_mapped next f nodes o p keeps state stack fits alone good =
     }
 
 -- while an operation runs, nobody is being started
-pub alone : (s : State) (o : Operation) → IsGood s → s.operation ≡ Some o → s.activities ≡ []
-alone s o good runs = subst (λ (x : Option Operation). Alone x s.activities) runs good.alone
+pub alone : (s : State) (o : Job) → IsGood s → s.operation ≡ Some o → s.activities ≡ []
+alone s o good runs = subst (λ (x : Option Job). Alone x s.activities) runs good.alone
 
-pub none_acts : (s : State) (o : Operation) (k : ℕ) (a : Activity) → IsGood s → s.operation ≡ Some o → activity_at k s.activities ≡ Some a → ⊥
+pub none_acts : (s : State) (o : Job) (k : ℕ) (a : Activity) → IsGood s → s.operation ≡ Some o → activity_at k s.activities ≡ Some a → ⊥
 none_acts s o k a good runs at = let none = subst (λ (x : List Activity). activity_at k x ≡ Some a) (alone s o good runs) at in cc

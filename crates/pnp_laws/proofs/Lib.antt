@@ -25,6 +25,7 @@ pub mod TreeMoves
 pub mod Sounds
 pub mod SoundStarts
 pub mod Finishes
+mod FitsBy
 pub mod SoundOps
 pub mod Theres
 pub mod Tolds

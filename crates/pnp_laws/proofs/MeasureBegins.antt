@@ -4,11 +4,10 @@ use Rattle.std.specs.List.{list_any, slice_get}
 use Rattle.std.proofs.lemmas.Bool.{cases_eq}
 use Rattle.std.proofs.lemmas.Bool.Decides.{nat_tests}
 use Rattle.std.proofs.lemmas.List.{length-reverse}
-use Rattle.resource_reqs.specs.Spelling.Answer.{no_fit}
 use Rattle.resource_reqs.specs.Resources.{Reqs}
 use Rattle.pnp_model.specs.Keyed.{those}
 use Rattle.pnp_model.specs.Tests.{is_surprise_removed, is_surprise_task}
-use Rattle.pnp_model.specs.Records.{Node, Task, Activity, State, Step, Operation, Rebalance, RebalanceStage, Duty}
+use Rattle.pnp_model.specs.Records.{Node, Task, Activity, State, Step, Duty, Job, Course, course_of}
 use Rattle.pnp_model.specs.Cores.{node_at, with_problem, serials_of}
 use Rattle.pnp_model.specs.States.{drop_task, is_in_world}
 use Rattle.pnp_model.specs.Starts.{adding}
@@ -22,7 +21,8 @@ use Rattle.pnp_laws.proofs.Lookups.{own_serial}
 use Rattle.pnp_laws.proofs.Closures.{length_serials}
 use Rattle.pnp_laws.proofs.DriverNames.{chosen_named}
 use Rattle.pnp_laws.proofs.IdleSteps.{First, TaskStep, gone_is}
-use Rattle.pnp_laws.proofs.Measures.{Falls, falls_coarse, coarse_by, tasks_cost, tasks_pushed, duty_cost, sum, sum_entered, phase_cost, is_open, is_target, born_in, operation_cost, SameBirths, births_same, births_changed, weight_in, weight_less}
+use Rattle.pnp_laws.proofs.Measures.{Falls, falls_coarse, coarse_by, tasks_cost, tasks_pushed, duty_cost, sum, sum_entered, phase_cost, is_open, is_target, target_in, born_in, operation_cost, cost_in, SameBirths, births_same, births_changed, weight_in, weight_less}
+use Rattle.pnp_laws.proofs.EffectsOfOperations.{begun_work}
 use Rattle.pnp_laws.proofs.Weights.{Lighter, found_drop, lighter_same, node_weight, serial_in, state_weight, told_weight, weigh_drop, weigh_less}
 use Rattle.pnp_laws.proofs.MeasureOps.{those_shorter, Lowers, lower_so}
 use Rattle.pnp_laws.proofs.MeasureStages.{ask_most, begun_target}
@@ -30,6 +30,7 @@ use Rattle.pnp_laws.proofs.MeasureTasks.{open_dropped, dropped_cost, open_pushed
 use Rattle.pnp_laws.proofs.Truths.{and_both, both_true, not_true, or_right}
 use Rattle.pnp_model.specs.Rebalances as re
 use Rattle.pnp_model.specs.Surprises as su
+use Rattle.pnp_model.specs.Jobs.{job_of}
 
 -- the first task is dropped, and what follows it costs less
 task_falls : (s t : State) (task : Task) → slice_get s.tasks 0 ≡ Some task → SameBirths s.core.nodes t.core.nodes → Lighter s.core.nodes t.core.nodes → t.world ≡ s.world → t.tasks ≡ drop 1 s.tasks → ((k : ℕ) → is_open t.tasks t.operation k ≡ true → is_open s.tasks s.operation k ≡ true) →
@@ -57,7 +58,7 @@ drops s t task first kind same light world tasks acts op =
     let b = ap (λ (xs : List Activity). sum (λ a. phase_cost (length (serials_of s.core.nodes)) a.phase) xs) acts in
     let c = ap (operation_cost (born_in s)) op in
     task_falls s t task first same light world tasks
-    (λ k h. open_dropped s.tasks task s.operation t.operation k first kind (ap (λ (o : Option Operation). is_target o k) op)
+    (λ k h. open_dropped s.tasks task s.operation t.operation k first kind (ap (λ (o : Option Job). is_target o k) op)
     (ap (λ (ts : List Task). not (list_any (is_surprise_of k) ts) && not (is_target t.operation k)) (sym tasks) ∙ h)) (omega arith)
 
 lowers_drop : (s : State) (label : Label) (task : Task) → slice_get s.tasks 0 ≡ Some task → is_surprise_task task.kind ≡ false → Lowers s (record { label = label; state = drop_task s })
@@ -74,7 +75,7 @@ gone_falls s node child none gone at =
     let two = and_both (not (is_in_world s.world child.born)) (not (list_any (is_surprise_of child.serial) s.tasks)) three.1 in
     let outside : is_in_world s.world child.born ≡ false = not_true (is_in_world s.world child.born) two.0 in
     let light : born_in s child.serial ≡ false = ap (is_born s.world) at ∙ outside in
-    let target : is_target s.operation child.serial ≡ false = ap (λ (o : Option Operation). is_target o child.serial) none in
+    let target : is_target s.operation child.serial ≡ false = ap (λ (o : Option Job). is_target o child.serial) none in
     let was : is_open s.tasks s.operation child.serial ≡ true = ap (λ (b : Bool). not (list_any (is_surprise_of child.serial) s.tasks) && not b) target ∙ both_true (not (list_any (is_surprise_of child.serial) s.tasks)) true two.1 refl in
     let now : is_open t.tasks t.operation child.serial ≡ false = ap (λ (b : Bool). not b && not (is_target s.operation child.serial)) (own s.tasks) in
     let opens : (k : ℕ) → is_open t.tasks t.operation k ≡ true → is_open s.tasks s.operation k ≡ true = λ k h. open_pushed s.tasks task s.operation k h in
@@ -108,33 +109,35 @@ lowers_install s node rank driver drivers light first none few =
 
 -- Beginning an operation -------------------------------------------------------------------------------------
 
-begins : (s : State) (kind : OpKind) (node : Node) (o : Operation) (task : Task) → slice_get s.tasks 0 ≡ Some task → is_surprise_task task.kind ≡ false → ((k : ℕ) → is_target (Some o) k ≡ false) → s.operation ≡ None →
-    operation_cost (born_in s) (Some o) < duty_cost (length (serials_of s.core.nodes)) (born_in s task.serial) task.kind → Lowers s (begin s kind node o)
-begins s kind node o task first surprise target none less =
+begins : (course : Course) (s : State) (kind : OpKind) (node : Node) (o : Job) (task : Task) → course_of o.kind ≡ course → slice_get s.tasks 0 ≡ Some task → is_surprise_task task.kind ≡ false → ((k : ℕ) → target_in course o k ≡ false) → s.operation ≡ None →
+    cost_in (born_in s) course o < duty_cost (length (serials_of s.core.nodes)) (born_in s task.serial) task.kind → Lowers s (begin s kind node o)
+begins course s kind node o task is first surprise target none less =
     let d = no_cost (born_in s) s.operation none in
+    let c = ap (λ (x : Course). cost_in (born_in s) x o) is in
     lower_so s _ (task_falls s (begin s kind node o).state task first (births_same s.core.nodes s.core.nodes refl) (lighter_same s.core.nodes s.core.nodes refl) refl refl
-    (λ k h. open_dropped s.tasks task s.operation (Some o) k first surprise (target k ∙ sym (ap (λ (x : Option Operation). is_target x k) none)) h) (omega arith))
+    (λ k h. open_dropped s.tasks task s.operation (Some o) k first surprise (ap (λ (x : Course). target_in x o k) is ∙ target k ∙ sym (ap (λ (x : Option Job). is_target x k) none)) h) (omega arith))
 
 -- a rebalance or a change, of which each may ask all
-lowers_rebalance : (s : State) (kind : OpKind) (node : Node) (wanted : Option Reqs) → First s (Duty.Begins kind) node.serial → is_surprise_task (Duty.Begins kind) ≡ false → duty_cost (length (serials_of s.core.nodes)) (born_in s node.serial) (Duty.Begins kind) ≡ 7 * length (serials_of s.core.nodes) + 7
-    → s.operation ≡ None → Lowers s (begin s kind node (Operation.Rebalancing (re.begun_with s.core node wanted)))
-lowers_rebalance s kind node wanted first surprise costs none =
-    let r : Rebalance = record { target = node.serial; path = node.path; wanted = wanted; todo = []; agreed = []; refused = []; found = no_fit; stage = RebalanceStage.Searching } in
+lowers_rebalance : (s : State) (kind : OpKind) (node : Node) (wanted : Option Reqs) → course_of kind ≡ Course.Rebalancing → First s (Duty.Begins kind) node.serial → is_surprise_task (Duty.Begins kind) ≡ false → duty_cost (length (serials_of s.core.nodes)) (born_in s node.serial) (Duty.Begins kind) ≡ 7 * length (serials_of s.core.nodes) + 7
+    → s.operation ≡ None → Lowers s (begin s kind node (re.begun_with s.core kind node wanted))
+lowers_rebalance s kind node wanted course first surprise costs none =
+    let r : Job = record (job_of kind node) { wanted = wanted } in
     let asked = those re.is_asked s.core.nodes in
-    let most = (ask_most r (reverse (serials_of asked))).cost in
+    let most = ask_most r (reverse (serials_of asked)) in
+    let cost = most.cost in
     let a = length-reverse (serials_of asked) in
     let b = length_serials asked in
     let c = those_shorter re.is_asked s.core.nodes in
     let d = length_serials s.core.nodes in
-    begins s kind node _ _ first surprise (λ i. refl) none (omega arith)
+    begins Course.Rebalancing s kind node _ _ (ap course_of most.kind ∙ course) first surprise (λ i. refl) none (omega arith)
 
 -- a surprise begins: its device is the target, so no more can be found gone
-open_surprise : (tasks : List Task) (o q : Option Operation) (k i : ℕ) → slice_get tasks 0 ≡ Some (record { kind = Duty.Begins OpKind.Surprise; serial = k }) → o ≡ None → is_target q i ≡ (k == i) → is_open (drop 1 tasks) q i ≡ true → is_open tasks o i ≡ true
+open_surprise : (tasks : List Task) (o q : Option Job) (k i : ℕ) → slice_get tasks 0 ≡ Some (record { kind = Duty.Begins OpKind.Surprise; serial = k }) → o ≡ None → is_target q i ≡ (k == i) → is_open (drop 1 tasks) q i ≡ true → is_open tasks o i ≡ true
 open_surprise [] o q k i first none target h = absurd (cc)
 open_surprise (t ∷ tasks) o q k i first none target h =
     let same : t ≡ record { kind = Duty.Begins OpKind.Surprise; serial = k } = cc in
     let own : is_surprise_of i t ≡ (k == i) = ap (λ (x : Task). is_surprise_of i x) same in
-    let was : is_target o i ≡ false = ap (λ (x : Option Operation). is_target x i) none in
+    let was : is_target o i ≡ false = ap (λ (x : Option Job). is_target x i) none in
     let h2 = subst (λ (b : Bool). (not (list_any (is_surprise_of i) tasks) && not b) ≡ true) target h in
     ap (λ (b : Bool). not (b || list_any (is_surprise_of i) tasks) && not (is_target o i)) own ∙ (ap (λ (b : Bool). not ((k == i) || list_any (is_surprise_of i) tasks) && not b) was ∙ turn (list_any (is_surprise_of i) tasks) (k == i) h2)
   where
@@ -143,15 +146,16 @@ open_surprise (t ∷ tasks) o q k i first none target h =
     turn false true g = absurd (cc)
     turn false false g = refl
 
-lowers_surprise : (s : State) (node : Node) (k : ℕ) → node_at k s.core.nodes ≡ Some node → First s (Duty.Begins OpKind.Surprise) k → s.operation ≡ None → Lowers s (begin s OpKind.Surprise node (Operation.Surprising (su.begun_surprise s.core node)))
+lowers_surprise : (s : State) (node : Node) (k : ℕ) → node_at k s.core.nodes ≡ Some node → First s (Duty.Begins OpKind.Surprise) k → s.operation ≡ None → Lowers s (begin s OpKind.Surprise node (su.begun_surprise s.core node))
 lowers_surprise s node k at first none =
     let q = su.begun_surprise s.core node in
     let target : q.target ≡ k = begun_target s.core node ∙ own_serial k node s.core.nodes at in
     let d = no_cost (born_in s) s.operation none in
-    let c : operation_cost (born_in s) (Some (Operation.Surprising q)) ≡ cond (born_in s k) 5 1 = ap (λ (i : ℕ). cond (born_in s i) 5 1) target in
+    let course : course_of q.kind ≡ Course.Surprising = ap course_of (begun_work s OpKind.Surprise node).0 in
+    let c : operation_cost (born_in s) (Some q) ≡ cond (born_in s k) 5 1 = ap (λ (x : Course). cost_in (born_in s) x q) course ∙ ap (λ (i : ℕ). cond (born_in s i) 5 1) target in
     let l = lighter (born_in s k) in
-    lower_so s _ (task_falls s (begin s OpKind.Surprise node (Operation.Surprising q)).state _ first (births_same s.core.nodes s.core.nodes refl) (lighter_same s.core.nodes s.core.nodes refl) refl refl
-    (λ i h. open_surprise s.tasks s.operation (Some (Operation.Surprising q)) k i first none (ap (λ (j : ℕ). j == i) target) h) (omega arith))
+    lower_so s _ (task_falls s (begin s OpKind.Surprise node q).state _ first (births_same s.core.nodes s.core.nodes refl) (lighter_same s.core.nodes s.core.nodes refl) refl refl
+    (λ i h. open_surprise s.tasks s.operation (Some q) k i first none (ap (λ (x : Course). target_in x q i) course ∙ ap (λ (j : ℕ). j == i) target) h) (omega arith))
   where
     lighter : (b : Bool) → cond b 5 1 + 1 ≡ cond b 6 2
     lighter true = refl
@@ -193,9 +197,9 @@ lowers_task s _ none order light (TaskStep.joins node d at up below) = record { 
 lowers_task s _ none order light (TaskStep.troubles node problem b fine) =
     lower_so s _ (drops s _ _ b.first refl (births_changed node.serial (with_problem (Some problem)) s.core.nodes _ refl (λ x. refl) (λ x. refl)) (light tt) refl refl refl refl)
 lowers_task s _ none order light (TaskStep.installs node rank driver drivers b chosen) = lowers_install s node rank driver drivers (light tt) b.first none (chosen_named s node.serial drivers chosen).0
-lowers_task s _ none order light (TaskStep.begins OpKind.Rebalance node first alone at fits) = lowers_rebalance s OpKind.Rebalance node None first refl refl none
-lowers_task s _ none order light (TaskStep.begins OpKind.Disable node first alone at fits) = begins s OpKind.Disable node _ _ first refl (λ i. refl) none (omega arith)
-lowers_task s _ none order light (TaskStep.begins OpKind.Eject node first alone at fits) = begins s OpKind.Eject node _ _ first refl (λ i. refl) none (omega arith)
+lowers_task s _ none order light (TaskStep.begins OpKind.Rebalance node first alone at fits) = lowers_rebalance s OpKind.Rebalance node None refl first refl refl none
+lowers_task s _ none order light (TaskStep.begins OpKind.Disable node first alone at fits) = begins Course.Removing s OpKind.Disable node _ _ (ap course_of (begun_work s OpKind.Disable node).0) first refl (λ i. refl) none (omega arith)
+lowers_task s _ none order light (TaskStep.begins OpKind.Eject node first alone at fits) = begins Course.Removing s OpKind.Eject node _ _ (ap course_of (begun_work s OpKind.Eject node).0) first refl (λ i. refl) none (omega arith)
 lowers_task s _ none order light (TaskStep.begins OpKind.Surprise node first alone at fits) = lowers_surprise s node node.serial at first none
-lowers_task s _ none order light (TaskStep.begins OpKind.Finish node first alone at fits) = begins s OpKind.Finish node _ _ first refl (λ i. refl) none (omega arith)
-lowers_task s _ none order light (TaskStep.begins OpKind.Change node first alone at fits) = lowers_rebalance s OpKind.Change node (Some _) first refl refl none
+lowers_task s _ none order light (TaskStep.begins OpKind.Finish node first alone at fits) = begins Course.Finishing s OpKind.Finish node _ _ refl first refl (λ i. refl) none (omega arith)
+lowers_task s _ none order light (TaskStep.begins OpKind.Change node first alone at fits) = lowers_rebalance s OpKind.Change node (Some _) refl first refl refl none

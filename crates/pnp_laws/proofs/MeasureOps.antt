@@ -1,33 +1,31 @@
 -- How what is still to begin, to do, or to answer is lowered: an operation goes on, is asked, loses a device, or closes.
 use Rattle.std.proofs.Common.{ℕ, suc, ◌+◌, ◌-◌, ◌*◌, ◌<◌, ◌≤◌, ◌≡◌, ◌≢◌, ◌==◌, ◌⊎◌, inl, inr, Bool, true, false, not, ◌&&◌, ◌||◌, cond, List, [], ◌∷◌, ◌++◌, length, Option, Some, None, refl, sym, ap, ◌∙◌, subst, arith, nat_le}
 use Rattle.std.specs.List.{list_any}
-use Rattle.std.specs.Option.{option_map}
 use Rattle.std.proofs.lemmas.Bool.{cases_eq}
 use Rattle.std.proofs.lemmas.Bool.Decides.{nat_tests}
 use Rattle.pnp_model.specs.Keyed.{those, without_first}
 use Rattle.pnp_model.specs.Tests.{has}
-use Rattle.pnp_model.specs.Records.{Node, Device, Task, Activity, Walk, State, Step, Operation, RebalanceStage, RemovalStage, Surprise, SurpriseStage, FinishStage, Duty}
+use Rattle.pnp_model.specs.Records.{Node, Device, Task, Activity, Walk, State, Step, Duty, Course, Job, Stage, course_of}
 use Rattle.pnp_model.specs.Cores.{is_node, node_at, serials_of, stack_of}
 use Rattle.pnp_model.specs.Walks.{after, is_bad, has_ended}
 use Rattle.pnp_model.specs.Trees.{stands_up}
 use Rattle.pnp_model.specs.Frames.{first_node, rest}
 use Rattle.pnp_model.specs.States.{is_in_world, relist, set_operation, without_those}
 use Rattle.pnp_model.specs.Tasks.{is_surprise_of}
-use Rattle.pnp_model.specs.Machine.{finish_walk, is_born, operation_walk, rebalance_walk, removal_walk, surprise_walk}
+use Rattle.pnp_model.specs.Machine.{is_born}
 use Rattle.pnp_labels.specs.Texts.{Text}
 use Rattle.pnp_labels.specs.declared.states.DevState.TheVariants.{SurpriseRemoved}
 use Rattle.pnp_labels.specs.declared.words.Answer.{Answer}
 use Rattle.pnp_labels.specs.declared.words.Answer.TheVariants.{Ok, Fail, Pend}
-use Rattle.pnp_laws.specs.Effects.{Turn, todo_of}
+use Rattle.pnp_laws.specs.Effects.{Turn}
 use Rattle.pnp_laws.specs.Kept.{Ascending}
 use Rattle.pnp_laws.specs.Words.{IsNoJoin}
 use Rattle.pnp_laws.proofs.Lists.{head_found}
 use Rattle.pnp_laws.proofs.Lookups.{left_from}
 use Rattle.pnp_laws.proofs.Finishing.{Listed, relist_only}
 use Rattle.pnp_laws.proofs.Stages.{Asks, asking, reply}
-use Rattle.pnp_laws.proofs.Measures.{Falls, falls_coarse, coarse, coarse_on, coarse_by, coarse_weighed, tasks_less, tasks_cost, tasks_pushed, sum, phase_cost, phase_less, is_open, is_target, open_same, born_in, operation_cost, operation_less, rebalance_cost, rank_of, rebalance_rank, removal_rank, surprise_rank, finish_rank, left_of, rebalance_left, removal_left, surprise_left, answers, answers_of, SameBirths, births_same, weight_in, weight_less}
+use Rattle.pnp_laws.proofs.Measures.{Falls, falls_coarse, coarse, coarse_on, coarse_by, coarse_weighed, tasks_less, tasks_cost, tasks_pushed, sum, phase_cost, phase_less, is_open, is_target, target_in, open_same, born_in, operation_cost, cost_in, operation_less, rebalance_cost, rank_of, rank_in, removal_rank, surprise_rank, finish_rank, left_of, left_in, removal_left, surprise_left, answers, answers_of, SameBirths, births_same, weight_in, weight_less}
 use Rattle.pnp_laws.proofs.Weights.{Lighter, lighter_same, node_more, node_weight, told_weight, weigh, weigh_left, weigh_less, weigh_more}
-use Rattle.pnp_model.specs.Events as ev
 use Rattle.pnp_model.specs.Rebalances as re
 
 -- By the first number that is lower ---------------------------------------------------------------------
@@ -86,80 +84,67 @@ startable_shorter nodes (k ∷ ks) = let more = startable_shorter nodes ks in ei
 abbrev pub Down : ℕ → ℕ → ℕ → ℕ → Type 0
 Down a b x y = (a < b) ⊎ ((a ≤ b) × (x < y))
 
+-- the operation stays of its course
+pub record OfCourse (course : Course) (o p : Job) : Type 0 where
+  pub own : course_of o.kind ≡ course
+  pub kind : p.kind ≡ o.kind
+
 -- births, world, tasks and activities stay, and no device is heavier
-pub falls_on : (s t : State) (o p : Operation) → t.operation ≡ Some p → SameBirths s.core.nodes t.core.nodes → t.world ≡ s.world → Lighter s.core.nodes t.core.nodes → t.tasks ≡ s.tasks → t.activities ≡ s.activities → ((k : ℕ) → is_target (Some p) k ≡ is_target (Some o) k) →
-    operation_cost (born_in s) (Some p) ≤ operation_cost (born_in s) (Some o) → Down (rank_of (Some p)) (rank_of (Some o)) (left_of (Some p)) (left_of (Some o)) → Falls (set_operation (Some o) s) t
-falls_on s t o p now same world light tasks acts target cost down =
+pub falls_on : (course : Course) (s t : State) (o p : Job) → OfCourse course o p → t.operation ≡ Some p → SameBirths s.core.nodes t.core.nodes → t.world ≡ s.world → Lighter s.core.nodes t.core.nodes → t.tasks ≡ s.tasks → t.activities ≡ s.activities → ((k : ℕ) → target_in course p k ≡ target_in course o k) →
+    cost_in (born_in s) course p ≤ cost_in (born_in s) course o → Down (rank_in course p) (rank_in course o) (left_in course p) (left_in course o) → Falls (set_operation (Some o) s) t
+falls_on course s t o p of now same world light tasks acts target cost down =
     let u = set_operation (Some o) s in
-    let d = ap (operation_cost (born_in s)) now in
-    let most = coarse_on u t same world light tasks acts (λ k. ap (λ (x : Option Operation). is_target x k) now ∙ target k) (omega arith) in
-    let b = ap rank_of now in
-    let y = ap left_of now in
+    let own = of.own in
+    let new = ap course_of of.kind ∙ of.own in
+    let a = ap (λ (x : Course). cost_in (born_in s) x o) own in
+    let d = ap (operation_cost (born_in s)) now ∙ ap (λ (x : Course). cost_in (born_in s) x p) new in
+    let most = coarse_on u t same world light tasks acts (λ k. ap (λ (x : Option Job). is_target x k) now ∙ ap (λ (x : Course). target_in x p k) new ∙ target k ∙ ap (λ (x : Course). target_in x o k) (sym own)) (omega arith) in
+    let b0 = ap (λ (x : Course). rank_in x o) own in
+    let b = ap rank_of now ∙ ap (λ (x : Course). rank_in x p) new in
+    let y0 = ap (λ (x : Course). left_in x o) own in
+    let y = ap left_of now ∙ ap (λ (x : Course). left_in x p) new in
     elim down [ inl l ↦ falls_rank u t most (omega arith) | inr (l, less) ↦ falls_left u t most (omega arith) (omega arith) ]
 
 -- an answer leaves all numbers but what is still to answer
-record SameNumbers (o p : Operation) (v : Walk) : Type 0 where
-  rank : rank_of (Some p) ≡ rank_of (Some o)
-  left : left_of (Some p) ≡ left_of (Some o)
-  cost : (born : ℕ → Bool) → operation_cost born (Some p) ≡ operation_cost born (Some o)
-  target : (k : ℕ) → is_target (Some p) k ≡ is_target (Some o) k
-  todo : todo_of p ≡ todo_of o
-  walk : operation_walk p ≡ Some v
+module _ (o : Job) (walk : Option Walk) where
+  same_cost : (born : ℕ → Bool) (course : Course) → cost_in born course (record o { walk = walk }) ≡ cost_in born course o
+  same_cost born Course.Rebalancing = by_stage o.stage
+    where
+      by_stage : (stage : Stage) → rebalance_cost (record o { walk = walk }) stage ≡ rebalance_cost o stage
+      by_stage Stage.Asking = refl
+      by_stage _ = refl
+  same_cost born _ = refl
 
-numbers_completed : (answer : Answer) (o : Operation) (w : Walk) → operation_walk o ≡ Some w → SameNumbers o (ev.completed answer o) (after w answer)
-numbers_completed answer (Operation.Rebalancing r) w walk =
-    let same = by_stage r.stage in
-    record { rank = same.0; left = same.1; cost = λ born. same.2; target = λ k. refl; todo = refl; walk = same.3 ∙ ap (option_map (λ (v : Walk). after v answer)) walk }
-  where
-    by_stage : (stage : RebalanceStage) → (rebalance_rank (ev.completed_rebalance answer stage) ≡ rebalance_rank stage) × (rebalance_left r.todo (ev.completed_rebalance answer stage) ≡ rebalance_left r.todo stage)
-        × (rebalance_cost (record r { stage = ev.completed_rebalance answer stage }) (ev.completed_rebalance answer stage) ≡ rebalance_cost r stage) × (rebalance_walk (ev.completed_rebalance answer stage) ≡ option_map (λ (v : Walk). after v answer) (rebalance_walk stage))
-    by_stage (RebalanceStage.Asking v) = (refl, refl, refl, refl)
-    by_stage _ = (refl, refl, refl, refl)
-numbers_completed answer (Operation.Removing o) w walk =
-    let same = by_stage o.stage in
-    record { rank = same.0; left = same.1; cost = λ born. refl; target = λ k. refl; todo = refl; walk = same.2 ∙ ap (option_map (λ (v : Walk). after v answer)) walk }
-  where
-    by_stage : (stage : RemovalStage) → (removal_rank (ev.completed_removal answer stage) ≡ removal_rank stage) × (removal_left o.todo (ev.completed_removal answer stage) ≡ removal_left o.todo stage)
-        × (removal_walk (ev.completed_removal answer stage) ≡ option_map (λ (v : Walk). after v answer) (removal_walk stage))
-    by_stage (RemovalStage.Asking v) = (refl, refl, refl)
-    by_stage _ = (refl, refl, refl)
-numbers_completed answer (Operation.Surprising o) w walk =
-    let same = by_stage o.stage in
-    record { rank = same.0; left = same.1; cost = λ born. refl; target = λ k. refl; todo = refl; walk = same.2 ∙ ap (option_map (λ (v : Walk). after v answer)) walk }
-  where
-    by_stage : (stage : SurpriseStage) → (surprise_rank (ev.completed_surprise answer stage) ≡ surprise_rank stage) × (surprise_left o.todo (ev.completed_surprise answer stage) ≡ surprise_left o.todo stage)
-        × (surprise_walk (ev.completed_surprise answer stage) ≡ option_map (λ (v : Walk). after v answer) (surprise_walk stage))
-    by_stage (SurpriseStage.Telling v) = (refl, refl, refl)
-    by_stage _ = (refl, refl, refl)
-numbers_completed answer (Operation.Finishing f) w walk =
-    let same = by_stage f.stage in
-    record { rank = same.0; left = refl; cost = λ born. refl; target = λ k. refl; todo = refl; walk = same.1 ∙ ap (option_map (λ (v : Walk). after v answer)) walk }
-  where
-    by_stage : (stage : FinishStage) → (finish_rank (ev.completed_finish answer stage) ≡ finish_rank stage) × (finish_walk (ev.completed_finish answer stage) ≡ option_map (λ (v : Walk). after v answer) (finish_walk stage))
-    by_stage (FinishStage.Removing v) = (refl, refl)
-    by_stage _ = (refl, refl)
+  same_rank : (course : Course) → rank_in course (record o { walk = walk }) ≡ rank_in course o
+  same_rank Course.Rebalancing = refl
+  same_rank _ = refl
 
-pub falls_asking : (s : State) (o : Operation) (node : Node) (w : Walk) → Ascending 0 s.core.nodes → Asks s o node w → Falls (set_operation (Some o) s) (asking s o node w).state
+  same_left : (course : Course) → left_in course (record o { walk = walk }) ≡ left_in course o
+  same_left Course.Rebalancing = refl
+  same_left _ = refl
+
+  same_target : (k : ℕ) (course : Course) → target_in course (record o { walk = walk }) k ≡ target_in course o k
+  same_target k Course.Surprising = refl
+  same_target k _ = refl
+
+pub falls_asking : (s : State) (o : Job) (node : Node) (w : Walk) → Ascending 0 s.core.nodes → Asks s o node w → Falls (set_operation (Some o) s) (asking s o node w).state
 falls_asking s o node w order asks =
     let u = set_operation (Some o) s in
     let t = (asking s o node w).state in
-    let p = ev.completed (reply s.core node w) o in
     let v = after w (reply s.core node w) in
-    let same = numbers_completed (reply s.core node w) o w asks.walk in
     let less = asked_less w (reply s.core node w) (length node.stack) asks.waits (asks.more order) in
     let old : answers_of u.core.nodes u.activities u.operation ≡ answers (Some w) (length node.stack) =
-    ap (λ (x : Option Walk). answers x (length (stack_of (first_node s.core.nodes (todo_of o))))) asks.walk ∙ ap (λ (x : Option Node). answers (Some w) (length (stack_of x))) asks.first in
-    let new : answers_of t.core.nodes t.activities t.operation ≡ answers (Some v) (length node.stack) =
-    ap (λ (x : Option Walk). answers x (length (stack_of (first_node s.core.nodes (todo_of p))))) same.walk ∙ ap (λ (x : List ℕ). answers (Some v) (length (stack_of (first_node s.core.nodes x)))) same.todo ∙ ap (λ (x : Option Node). answers (Some v) (length (stack_of x))) asks.first in
-    let a = same.cost (born_in s) in
-    let c = same.rank in
-    let e = same.left in
-    falls_answers u t (coarse_on u t (births_same s.core.nodes s.core.nodes refl) refl (lighter_same s.core.nodes s.core.nodes refl) refl refl same.target (omega arith)) (omega arith) (omega arith) (omega arith)
+    ap (λ (x : Option Walk). answers x (length (stack_of (first_node s.core.nodes o.todo)))) asks.walk ∙ ap (λ (x : Option Node). answers (Some w) (length (stack_of x))) asks.first in
+    let new : answers_of t.core.nodes t.activities t.operation ≡ answers (Some v) (length node.stack) = ap (λ (x : Option Node). answers (Some v) (length (stack_of x))) asks.first in
+    let a = same_cost o (Some v) (born_in s) (course_of o.kind) in
+    let c = same_rank o (Some v) (course_of o.kind) in
+    let e = same_left o (Some v) (course_of o.kind) in
+    falls_answers u t (coarse_on u t (births_same s.core.nodes s.core.nodes refl) refl (lighter_same s.core.nodes s.core.nodes refl) refl refl (λ k. same_target o (Some v) k (course_of o.kind)) (omega arith)) (omega arith) (omega arith) (omega arith)
 
 -- Where the next device of an operation is taken -------------------------------------------------------
 
 -- what is lower than the operation after the turn is lower than before it
-sooner : (s t : State) (o p : Operation) → coarse (set_operation (Some p) s) ≤ coarse (set_operation (Some o) s) → Down (rank_of (Some p)) (rank_of (Some o)) (left_of (Some p)) (left_of (Some o)) → Falls (set_operation (Some p) s) t → Falls (set_operation (Some o) s) t
+sooner : (s t : State) (o p : Job) → coarse (set_operation (Some p) s) ≤ coarse (set_operation (Some o) s) → Down (rank_of (Some p)) (rank_of (Some o)) (left_of (Some p)) (left_of (Some o)) → Falls (set_operation (Some p) s) t → Falls (set_operation (Some o) s) t
 sooner s t o p most down falls =
     record {
       lower = by_down (8 * coarse t + rank_of t.operation) (coarse (set_operation (Some p) s)) (coarse (set_operation (Some o) s)) (rank_of (Some p)) (rank_of (Some o)) (left_of t.operation) (left_of (Some p)) (left_of (Some o)) most down falls.lower;
@@ -172,24 +157,39 @@ sooner s t o p most down falls =
     by_down a x y b c l m n h (inr (same, less)) (inr (low, inl g)) = inr (omega arith, inl (omega arith))
     by_down a x y b c l m n h (inr (same, less)) (inr (low, inr (g, rest))) = inr (omega arith, inl (omega arith))
 
+sooner_in : (course : Course) (s t : State) (o p : Job) → OfCourse course o p → ((k : ℕ) → target_in course p k ≡ target_in course o k) → cost_in (born_in s) course p ≤ cost_in (born_in s) course o → Down (rank_in course p) (rank_in course o) (left_in course p) (left_in course o)
+    → Falls (set_operation (Some p) s) t → Falls (set_operation (Some o) s) t
+sooner_in course s t o p of target cost down falls =
+    let own = of.own in
+    let new = ap course_of of.kind ∙ of.own in
+    let a = ap (λ (x : Course). cost_in (born_in s) x o) own in
+    let d = ap (λ (x : Course). cost_in (born_in s) x p) new in
+    let most = coarse_on (set_operation (Some o) s) (set_operation (Some p) s) (births_same s.core.nodes s.core.nodes refl) refl (lighter_same s.core.nodes s.core.nodes refl) refl refl
+    (λ k. ap (λ (x : Course). target_in x p k) new ∙ target k ∙ ap (λ (x : Course). target_in x o k) (sym own)) (omega arith) in
+    let b0 = ap (λ (x : Course). rank_in x o) own in
+    let b = ap (λ (x : Course). rank_in x p) new in
+    let y0 = ap (λ (x : Course). left_in x o) own in
+    let y = ap (λ (x : Course). left_in x p) new in
+    sooner s t o p most (elim down [ inl l ↦ inl (omega arith) | inr (l, less) ↦ inr (omega arith, omega arith) ]) falls
+
 -- a turn leaves less to do
-pub falls_turned : (s t : State) (o p : Operation) → Turn s o p → Falls (set_operation (Some p) s) t → Falls (set_operation (Some o) s) t
+pub falls_turned : (s t : State) (o p : Job) → Turn s o p → Falls (set_operation (Some p) s) t → Falls (set_operation (Some o) s) t
 falls_turned s t _ _ (Turn.same o) falls = falls
-falls_turned s t _ _ (Turn.queries o node is first asks) falls =
+falls_turned s t _ _ (Turn.queries o node course is idle first asks) falls =
     let a = ap removal_rank is in
     let b = ap (removal_left o.todo) is in
-    sooner s t (Operation.Removing o) _ (omega arith) (inr (omega arith, omega arith)) falls
-falls_turned s t _ _ (Turn.removes o node d ds is first goes full) falls =
+    sooner_in Course.Removing s t o _ (record { own = course; kind = refl }) (λ k. refl) (omega arith) (inr (omega arith, omega arith)) falls
+falls_turned s t _ _ (Turn.removes o node d ds course is idle first goes full) falls =
     let a = ap surprise_rank is in
     let b = ap (surprise_left o.todo) is in
-    sooner s t (Operation.Surprising o) _ (omega arith) (inr (omega arith, omega arith)) falls
-falls_turned s t _ _ (Turn.settles o node is first goes none) falls =
+    sooner_in Course.Surprising s t o _ (record { own = course; kind = refl }) (λ k. refl) (omega arith) (inr (omega arith, omega arith)) falls
+falls_turned s t _ _ (Turn.settles o node course is idle first goes none) falls =
     let a = ap surprise_rank is in
     let b = ap (surprise_left o.todo) is in
-    sooner s t (Operation.Surprising o) _ (omega arith) (inr (omega arith, omega arith)) falls
-falls_turned s t _ _ (Turn.finishes f k node is ready at) falls =
+    sooner_in Course.Surprising s t o _ (record { own = course; kind = refl }) (λ k. refl) (omega arith) (inr (omega arith, omega arith)) falls
+falls_turned s t _ _ (Turn.finishes f k node course is idle ready at) falls =
     let a = ap finish_rank is in
-    sooner s t (Operation.Finishing f) _ (omega arith) (inl (omega arith)) falls
+    sooner_in Course.Finishing s t f _ (record { own = course; kind = refl }) (λ k. refl) (omega arith) (inl (omega arith)) falls
 
 -- A device leaves --------------------------------------------------------------------------------------
 
@@ -237,7 +237,7 @@ sum_less : (n m : ℕ) (acts : List Activity) → n ≤ m → sum (λ a. phase_c
 sum_less n m [] l = omega arith
 sum_less n m (a ∷ acts) l = let here = phase_less n m a.phase l in let more = sum_less n m acts l in omega arith
 
-open_listed : (tasks more : List Task) (o p : Option Operation) (k : ℕ) → Listed tasks more → is_target p k ≡ is_target o k → is_open more p k ≡ true → is_open tasks o k ≡ true
+open_listed : (tasks more : List Task) (o p : Option Job) (k : ℕ) → Listed tasks more → is_target p k ≡ is_target o k → is_open more p k ≡ true → is_open tasks o k ≡ true
 open_listed tasks more o p k (inl e) target h = open_same tasks more o p k e target h
 open_listed tasks more o p k (inr (j, e)) target h =
     ap (λ (b : Bool). not (list_any (is_surprise_of k) tasks) && not b) (sym target)
@@ -271,12 +271,15 @@ coarse_left s t j node order at nodes light world tasks acts target cost =
     let d = operation_less (born_in t) (born_in s) t.operation born in
     omega arith
 
-pub falls_leaves : (s t : State) (o p : Operation) (node : Node) → Ascending 0 s.core.nodes → first_node s.core.nodes (todo_of o) ≡ Some node → t.operation ≡ Some p → t.core.nodes ≡ without_first (is_node node.serial) s.core.nodes → Lighter s.core.nodes t.core.nodes →
-    ((x : Option Node) → is_born t.world x ≡ true → is_born s.world x ≡ true) → Listed s.tasks t.tasks → t.activities ≡ s.activities → ((k : ℕ) → is_target (Some p) k ≡ is_target (Some o) k) → operation_cost (born_in s) (Some p) ≤ operation_cost (born_in s) (Some o) → Falls (set_operation (Some o) s) t
-falls_leaves s t o p node order first now nodes light world tasks acts target cost =
+pub falls_leaves : (course : Course) (s t : State) (o p : Job) (node : Node) → OfCourse course o p → Ascending 0 s.core.nodes → first_node s.core.nodes o.todo ≡ Some node → t.operation ≡ Some p → t.core.nodes ≡ without_first (is_node node.serial) s.core.nodes → Lighter s.core.nodes t.core.nodes →
+    ((x : Option Node) → is_born t.world x ≡ true → is_born s.world x ≡ true) → Listed s.tasks t.tasks → t.activities ≡ s.activities → ((k : ℕ) → target_in course p k ≡ target_in course o k) → cost_in (born_in s) course p ≤ cost_in (born_in s) course o → Falls (set_operation (Some o) s) t
+falls_leaves course s t o p node of order first now nodes light world tasks acts target cost =
     let u = set_operation (Some o) s in
-    falls_coarse u t (coarse_left u t node.serial node order (head_found s.core.nodes (todo_of o) node first).1 nodes light world tasks acts (λ k. ap (λ (x : Option Operation). is_target x k) now ∙ target k)
-    (let a = ap (operation_cost (born_in s)) now in omega arith))
+    let own = of.own in
+    let new = ap course_of of.kind ∙ of.own in
+    falls_coarse u t (coarse_left u t node.serial node order (head_found s.core.nodes o.todo node first).1 nodes light world tasks acts
+    (λ k. ap (λ (x : Option Job). is_target x k) now ∙ ap (λ (x : Course). target_in x p k) new ∙ target k ∙ ap (λ (x : Course). target_in x o k) (sym own))
+    (let a = ap (operation_cost (born_in s)) now ∙ ap (λ (x : Course). cost_in (born_in s) x p) new in let b = ap (λ (x : Course). cost_in (born_in s) x o) own in omega arith))
 
 -- the world of a state after which the parent was listed again
 pub same_in : (s u : State) (path : Text) (born : ℕ) → ((x : Option Node) → is_born u.world x ≡ true → is_born s.world x ≡ true) → (x : Option Node) → is_born (relist path born u).world x ≡ true → is_born s.world x ≡ true
@@ -289,54 +292,56 @@ fewer_in gone world (Some n) h = fewer_born gone world n.born h
 -- An operation closes ------------------------------------------------------------------------------------
 
 -- nobody more can be found gone, and what begins costs less than the operation
-pub falls_close : (s t : State) (o : Operation) → ((k : ℕ) → is_target (Some o) k ≡ false) → t.core.nodes ≡ s.core.nodes → t.world ≡ s.world → t.tasks ≡ s.tasks → t.operation ≡ None →
-    sum (λ a. phase_cost (length (serials_of s.core.nodes)) a.phase) t.activities < sum (λ a. phase_cost (length (serials_of s.core.nodes)) a.phase) s.activities + operation_cost (born_in s) (Some o) → Falls (set_operation (Some o) s) t
-falls_close s t o target nodes world tasks none less =
+pub falls_close : (course : Course) (s t : State) (o : Job) → course_of o.kind ≡ course → ((k : ℕ) → target_in course o k ≡ false) → t.core.nodes ≡ s.core.nodes → t.world ≡ s.world → t.tasks ≡ s.tasks → t.operation ≡ None →
+    sum (λ a. phase_cost (length (serials_of s.core.nodes)) a.phase) t.activities < sum (λ a. phase_cost (length (serials_of s.core.nodes)) a.phase) s.activities + cost_in (born_in s) course o → Falls (set_operation (Some o) s) t
+falls_close course s t o is target nodes world tasks none less =
     let u = set_operation (Some o) s in
     let a = ap (tasks_cost (length (serials_of s.core.nodes)) (born_in s)) tasks in
     let b = ap (operation_cost (born_in s)) none in
+    let c = ap (λ (x : Course). cost_in (born_in s) x o) is in
     falls_coarse u t (coarse_by u t (births_same s.core.nodes t.core.nodes nodes) world (lighter_same s.core.nodes t.core.nodes nodes)
-    (λ k h. open_same s.tasks t.tasks (Some o) t.operation k tasks (ap (λ (x : Option Operation). is_target x k) none ∙ sym (target k)) h) (omega arith))
+    (λ k h. open_same s.tasks t.tasks (Some o) t.operation k tasks (ap (λ (x : Option Job). is_target x k) none ∙ sym (ap (λ (x : Course). target_in x o k) is ∙ target k)) h) (omega arith))
 
 -- only the target may be found gone again
-open_target : (s t : State) (o : Surprise) → t.operation ≡ None → t.tasks ≡ s.tasks → (k : ℕ) → k ≢ o.target → is_open t.tasks t.operation k ≡ true → is_open s.tasks (Some (Operation.Surprising o)) k ≡ true
-open_target s t o none tasks k other h =
+open_target : (s t : State) (o : Job) → course_of o.kind ≡ Course.Surprising → t.operation ≡ None → t.tasks ≡ s.tasks → (k : ℕ) → k ≢ o.target → is_open t.tasks t.operation k ≡ true → is_open s.tasks (Some o) k ≡ true
+open_target s t o course none tasks k other h =
     let out : (o.target == k) ≡ false = grind (arith, nat_tests) in
-    let target : is_target t.operation k ≡ (o.target == k) = ap (λ (x : Option Operation). is_target x k) none ∙ sym out in
-    open_same s.tasks t.tasks (Some (Operation.Surprising o)) t.operation k tasks target h
+    let target : is_target t.operation k ≡ is_target (Some o) k = ap (λ (x : Option Job). is_target x k) none ∙ sym (ap (λ (x : Course). target_in x o k) course ∙ out) in
+    open_same s.tasks t.tasks (Some o) t.operation k tasks target h
 
 -- the target is in the world, has left, or was told that it has gone
 abbrev pub TargetOver : State → ℕ → Type 0
 TargetOver s k = (born_in s k ≡ true) ⊎ ((node_at k s.core.nodes ≡ None) ⊎ ((n : Node) × (node_at k s.core.nodes ≡ Some n) × (n.state ≡ SurpriseRemoved)))
 
-pub falls_over : (s t : State) (o : Surprise) → Ascending 0 s.core.nodes → TargetOver s o.target → t.operation ≡ None → t.core.nodes ≡ s.core.nodes → t.world ≡ s.world → t.tasks ≡ s.tasks → t.activities ≡ s.activities → Falls (set_operation (Some (Operation.Surprising o)) s) t
-falls_over s t o order target none nodes world tasks acts =
-    let u = set_operation (Some (Operation.Surprising o)) s in
+pub falls_over : (s t : State) (o : Job) → course_of o.kind ≡ Course.Surprising → Ascending 0 s.core.nodes → TargetOver s o.target → t.operation ≡ None → t.core.nodes ≡ s.core.nodes → t.world ≡ s.world → t.tasks ≡ s.tasks → t.activities ≡ s.activities → Falls (set_operation (Some o) s) t
+falls_over s t o course order target none nodes world tasks acts =
+    let u = set_operation (Some o) s in
     let a = ap (tasks_cost (length (serials_of s.core.nodes)) (born_in s)) tasks in
     let b = ap (operation_cost (born_in s)) none in
     let c = ap (λ (xs : List Activity). sum (λ a. phase_cost (length (serials_of s.core.nodes)) a.phase) xs) acts in
     let l = coarse_weighed u t (births_same s.core.nodes t.core.nodes nodes) world in
+    let is = ap (λ (x : Course). cost_in (born_in s) x o) course in
     let d = some (born_in s o.target) in
     elim target [
       | inl born ↦
-          let w = weigh_more (weight_in t) (weight_in u) o.target 3 0 s.core.nodes order others (at_target 3 (node_more (is_open t.tasks t.operation o.target) (is_open s.tasks (Some (Operation.Surprising o)) o.target) (node_at o.target s.core.nodes))) in
-          let e : operation_cost (born_in s) (Some (Operation.Surprising o)) ≡ 5 = ap (λ (b : Bool). cond b 5 1) born in
+          let w = weigh_more (weight_in t) (weight_in u) o.target 3 0 s.core.nodes order others (at_target 3 (node_more (is_open t.tasks t.operation o.target) (is_open s.tasks (Some o) o.target) (node_at o.target s.core.nodes))) in
+          let e : operation_cost (born_in s) (Some o) ≡ 5 = is ∙ ap (λ (b : Bool). cond b 5 1) born in
           falls_coarse u t (omega arith)
       | inr (inl gone) ↦
-          let w = weigh_more (weight_in t) (weight_in u) o.target 0 0 s.core.nodes order others (at_target 0 (subst (λ (x : Option Node). node_weight (is_open t.tasks t.operation o.target) x ≤ node_weight (is_open s.tasks (Some (Operation.Surprising o)) o.target) x + 0) (sym gone) (omega arith))) in
+          let w = weigh_more (weight_in t) (weight_in u) o.target 0 0 s.core.nodes order others (at_target 0 (subst (λ (x : Option Node). node_weight (is_open t.tasks t.operation o.target) x ≤ node_weight (is_open s.tasks (Some o) o.target) x + 0) (sym gone) (omega arith))) in
           falls_coarse u t (omega arith)
       | inr (inr (n, at, told)) ↦
-          let m = told_weight (is_open t.tasks t.operation o.target) (is_open s.tasks (Some (Operation.Surprising o)) o.target) (node_at o.target s.core.nodes) n at told in
+          let m = told_weight (is_open t.tasks t.operation o.target) (is_open s.tasks (Some o) o.target) (node_at o.target s.core.nodes) n at told in
           let w = weigh_more (weight_in t) (weight_in u) o.target 0 0 s.core.nodes order others (at_target 0 (omega arith)) in
           falls_coarse u t (omega arith)
     ]
   where
-    at_target : (d : ℕ) → node_weight (is_open t.tasks t.operation o.target) (node_at o.target s.core.nodes) ≤ node_weight (is_open s.tasks (Some (Operation.Surprising o)) o.target) (node_at o.target s.core.nodes) + d
-        → weight_in t o.target ≤ node_weight (is_open s.tasks (Some (Operation.Surprising o)) o.target) (node_at o.target s.core.nodes) + d
-    at_target d h = subst (λ (x : List Node). node_weight (is_open t.tasks t.operation o.target) (node_at o.target x) ≤ node_weight (is_open s.tasks (Some (Operation.Surprising o)) o.target) (node_at o.target s.core.nodes) + d) (sym nodes) h
+    at_target : (d : ℕ) → node_weight (is_open t.tasks t.operation o.target) (node_at o.target s.core.nodes) ≤ node_weight (is_open s.tasks (Some o) o.target) (node_at o.target s.core.nodes) + d
+        → weight_in t o.target ≤ node_weight (is_open s.tasks (Some o) o.target) (node_at o.target s.core.nodes) + d
+    at_target d h = subst (λ (x : List Node). node_weight (is_open t.tasks t.operation o.target) (node_at o.target x) ≤ node_weight (is_open s.tasks (Some o) o.target) (node_at o.target s.core.nodes) + d) (sym nodes) h
 
-    others : (k : ℕ) → k ≢ o.target → weight_in t k ≤ node_weight (is_open s.tasks (Some (Operation.Surprising o)) k) (node_at k s.core.nodes)
-    others k other = weight_less (set_operation (Some (Operation.Surprising o)) s) t (lighter_same s.core.nodes t.core.nodes nodes) k (open_target s t o none tasks k other)
+    others : (k : ℕ) → k ≢ o.target → weight_in t k ≤ node_weight (is_open s.tasks (Some o) k) (node_at k s.core.nodes)
+    others k other = weight_less (set_operation (Some o) s) t (lighter_same s.core.nodes t.core.nodes nodes) k (open_target s t o course none tasks k other)
 
     some : (b : Bool) → 1 ≤ cond b 5 1
     some true = omega arith

@@ -3,7 +3,7 @@ use Rattle.std.proofs.Common.{ℕ, drop, ◌+◌, ◌*◌, ◌<◌, ◌≤◌, �
 use Rattle.std.specs.List.{list_any, slice_get}
 use Rattle.pnp_model.specs.Keyed.{changed_first}
 use Rattle.pnp_model.specs.Tests.{is_surprise_task}
-use Rattle.pnp_model.specs.Records.{Node, Core, Task, Activity, Phase, Walk, State, Operation, Duty}
+use Rattle.pnp_model.specs.Records.{Node, Core, Task, Activity, Phase, Walk, State, Duty, Job}
 use Rattle.pnp_model.specs.Records.Phase.{Adding, Searching, Starting, Removing, Due}
 use Rattle.pnp_model.specs.Cores.{bare, is_node, node_at, with_problem, with_stack, with_state, with_holds, stacked, serials_of, stack_of}
 use Rattle.pnp_model.specs.Walks.{after, has_ended, walk_of}
@@ -39,11 +39,11 @@ any_pushed k (t ∷ tasks) task h = by_test (is_surprise_of k t) (any_pushed k t
     by_test true more g = refl
     by_test false more g = more g
 
-pub open_pushed : (tasks : List Task) (task : Task) (o : Option Operation) (k : ℕ) → is_open (tasks ++ task ∷ []) o k ≡ true → is_open tasks o k ≡ true
+pub open_pushed : (tasks : List Task) (task : Task) (o : Option Job) (k : ℕ) → is_open (tasks ++ task ∷ []) o k ≡ true → is_open tasks o k ≡ true
 open_pushed tasks task o k h = fewer_open (list_any (is_surprise_of k) (tasks ++ task ∷ [])) (list_any (is_surprise_of k) tasks) (is_target o k) (any_pushed k tasks task) h
 
 -- the first task, which is no surprise, is dropped
-pub open_dropped : (tasks : List Task) (task : Task) (o p : Option Operation) (k : ℕ) → slice_get tasks 0 ≡ Some task → is_surprise_task task.kind ≡ false → is_target p k ≡ is_target o k → is_open (drop 1 tasks) p k ≡ true → is_open tasks o k ≡ true
+pub open_dropped : (tasks : List Task) (task : Task) (o p : Option Job) (k : ℕ) → slice_get tasks 0 ≡ Some task → is_surprise_task task.kind ≡ false → is_target p k ≡ is_target o k → is_open (drop 1 tasks) p k ≡ true → is_open tasks o k ≡ true
 open_dropped [] task o p k first kind target h = absurd (cc)
 open_dropped (t ∷ tasks) task o p k first kind target h =
     let same : t ≡ task = cc in
@@ -63,7 +63,7 @@ pub record Active (s : State) (node : Node) (phase : Phase) : Type 0 where
   pub is : activity.phase ≡ phase
   pub at : node_at node.serial s.core.nodes ≡ Some node
 
-pub no_cost : (born : ℕ → Bool) (o : Option Operation) → o ≡ None → operation_cost born o ≡ 0
+pub no_cost : (born : ℕ → Bool) (o : Option Job) → o ≡ None → operation_cost born o ≡ 0
 no_cost born o e = ap (operation_cost born) e
 
 -- the activity goes on in a phase that costs less
@@ -132,9 +132,9 @@ goes_asked s node c wrap w answer walk cost active nodes waits ended =
     let now : activity_answers s.core.nodes (with_phase (wrap v) active.activity) ≡ answers (Some v) (length node.stack) =
     ap (λ (o : Option Walk). answers o (stack_at s.core.nodes active.activity.serial)) (walk v) ∙ ap (λ (m : ℕ). answers (Some v) m) stack in
     let f = sum_changed (activity_answers s.core.nodes) node.serial (wrap v) s.activities active.activity active.there in
-    let old : answers_of s.core.nodes s.activities s.operation ≡ sum (activity_answers s.core.nodes) s.activities = ap (λ (o : Option Operation). answers_of s.core.nodes s.activities o) active.none in
+    let old : answers_of s.core.nodes s.activities s.operation ≡ sum (activity_answers s.core.nodes) s.activities = ap (λ (o : Option Job). answers_of s.core.nodes s.activities o) active.none in
     let new : answers_of t.core.nodes t.activities t.operation ≡ sum (activity_answers s.core.nodes) (changed_first (is_activity node.serial) (with_phase (wrap v)) s.activities) =
-    ap (λ (o : Option Operation). answers_of t.core.nodes t.activities o) active.none ∙ ap (λ (x : List Node). sum (activity_answers x) t.activities) nodes in
+    ap (λ (o : Option Job). answers_of t.core.nodes t.activities o) active.none ∙ ap (λ (x : List Node). sum (activity_answers x) t.activities) nodes in
     falls_answers s t (omega arith) (omega arith) (omega arith) (omega arith)
 
 pub adding_cost : (n : ℕ) (ds : List ℕ) → phase_cost n (adding ds) ≤ 7 * n + 9 + 5 * length ds

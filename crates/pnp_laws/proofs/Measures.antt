@@ -5,14 +5,13 @@ use Rattle.std.specs.Option.{option_map}
 use Rattle.std.proofs.lemmas.Bool.{cases_eq}
 use Rattle.std.proofs.lemmas.Bool.Decides.{nat_tests}
 use Rattle.pnp_model.specs.Keyed.{changed_first, without_first}
-use Rattle.pnp_model.specs.Records.{Node, Device, Task, Activity, Phase, Walk, State, Operation, Rebalance, RebalanceStage, RemovalStage, SurpriseStage, FinishStage, Duty}
+use Rattle.pnp_model.specs.Records.{Node, Device, Task, Activity, Phase, Walk, State, Duty, Course, Job, Stage, course_of}
 use Rattle.pnp_model.specs.Cores.{is_node, node_at, serials_of, stack_of}
 use Rattle.pnp_model.specs.States.{is_activity, activity_at, with_phase, is_above, entered, is_in_world}
 use Rattle.pnp_model.specs.Tasks.{is_surprise_of}
 use Rattle.pnp_model.specs.Frames.{first_node}
-use Rattle.pnp_model.specs.Machine.{phase_walk, operation_walk, is_born}
+use Rattle.pnp_model.specs.Machine.{phase_walk, is_born}
 use Rattle.pnp_labels.specs.declared.label.OpKind.{OpKind}
-use Rattle.pnp_laws.specs.Effects.{todo_of}
 use Rattle.pnp_laws.proofs.Lookups.{node_changed_same, node_changed_other, node_at-map}
 use Rattle.pnp_laws.proofs.Weights.{Lighter, node_less, node_weight, weigh, weigh_less}
 
@@ -47,39 +46,44 @@ abbrev pub sum : (Activity → ℕ) → List Activity → ℕ
 sum f [] = 0
 sum f (a ∷ activities) = f a + sum f activities
 
-abbrev pub rebalance_cost : Rebalance → RebalanceStage → ℕ
-rebalance_cost r (RebalanceStage.Asking w) = 7 * (length r.todo + length r.agreed) + 6
-rebalance_cost r (RebalanceStage.TakingBack w) = 7 * (length r.todo + length r.agreed) + 6
-rebalance_cost r RebalanceStage.Searching = 7 * length r.agreed + 6
-rebalance_cost r (RebalanceStage.Cancelling w) = 6
-rebalance_cost r RebalanceStage.Stuck = 6
-rebalance_cost r (RebalanceStage.Stopping w) = 7 * length r.agreed + 6
-rebalance_cost r RebalanceStage.Committing = 7 * length r.agreed + 6
-rebalance_cost r (RebalanceStage.Restarting w) = 7 * length r.todo + 6
-rebalance_cost r RebalanceStage.Failed = 7 * length r.todo + 6
-rebalance_cost r RebalanceStage.Ending = 6
+abbrev pub rebalance_cost : Job → Stage → ℕ
+rebalance_cost r Stage.Asking = 7 * (length r.todo + length r.agreed) + 6
+rebalance_cost r Stage.TakingBack = 7 * (length r.todo + length r.agreed) + 6
+rebalance_cost r Stage.Searching = 7 * length r.agreed + 6
+rebalance_cost r Stage.Stopping = 7 * length r.agreed + 6
+rebalance_cost r Stage.Committing = 7 * length r.agreed + 6
+rebalance_cost r Stage.Restarting = 7 * length r.todo + 6
+rebalance_cost r Stage.Failed = 7 * length r.todo + 6
+rebalance_cost r _ = 6
 
-abbrev pub operation_cost : (ℕ → Bool) → Option Operation → ℕ
+abbrev pub cost_in : (ℕ → Bool) → Course → Job → ℕ
+cost_in born Course.Rebalancing r = rebalance_cost r r.stage
+cost_in born Course.Removing o = 1
+cost_in born Course.Surprising o = cond (born o.target) 5 1
+cost_in born Course.Finishing f = 1
+
+abbrev pub operation_cost : (ℕ → Bool) → Option Job → ℕ
 operation_cost born None = 0
-operation_cost born (Some (Operation.Rebalancing r)) = rebalance_cost r r.stage
-operation_cost born (Some (Operation.Removing o)) = 1
-operation_cost born (Some (Operation.Surprising o)) = cond (born o.target) 5 1
-operation_cost born (Some (Operation.Finishing f)) = 1
+operation_cost born (Some o) = cost_in born (course_of o.kind) o
 
 -- the device of the surprise removal that runs
-abbrev pub is_target : Option Operation → ℕ → Bool
-is_target (Some (Operation.Surprising o)) k = o.target == k
-is_target _ k = false
+abbrev pub target_in : Course → Job → ℕ → Bool
+target_in Course.Surprising o k = o.target == k
+target_in _ o k = false
+
+abbrev pub is_target : Option Job → ℕ → Bool
+is_target None k = false
+is_target (Some o) k = target_in (course_of o.kind) o k
 
 -- it may still be found gone: no surprise removal of it waits or runs
-abbrev pub is_open : List Task → Option Operation → ℕ → Bool
+abbrev pub is_open : List Task → Option Job → ℕ → Bool
 is_open tasks operation k = not (list_any (is_surprise_of k) tasks) && not (is_target operation k)
 
 -- what the device of a serial weighs
 abbrev pub weight_in : State → ℕ → ℕ
 weight_in s k = node_weight (is_open s.tasks s.operation k) (node_at k s.core.nodes)
 
-abbrev pub coarse_of : (ℕ → ℕ) → List ℕ → (ℕ → Bool) → List Task → List Activity → Option Operation → ℕ
+abbrev pub coarse_of : (ℕ → ℕ) → List ℕ → (ℕ → Bool) → List Task → List Activity → Option Job → ℕ
 coarse_of weight serials born tasks activities operation =
     2 * length serials + (weigh weight serials
     + (tasks_cost (length serials) born tasks + (sum (λ a. phase_cost (length serials) a.phase) activities + operation_cost born operation)))
@@ -92,82 +96,84 @@ coarse s = coarse_of (weight_in s) (serials_of s.core.nodes) (born_in s) s.tasks
 
 -- What is still to do in an operation ----------------------------------------------------------------
 
-abbrev pub rebalance_rank : RebalanceStage → ℕ
-rebalance_rank (RebalanceStage.Asking w) = 6
-rebalance_rank (RebalanceStage.TakingBack w) = 6
-rebalance_rank RebalanceStage.Searching = 5
-rebalance_rank (RebalanceStage.Cancelling w) = 4
-rebalance_rank (RebalanceStage.Stopping w) = 4
-rebalance_rank RebalanceStage.Committing = 3
-rebalance_rank RebalanceStage.Stuck = 3
-rebalance_rank (RebalanceStage.Restarting w) = 2
-rebalance_rank RebalanceStage.Failed = 2
-rebalance_rank RebalanceStage.Ending = 1
+abbrev pub rebalance_rank : Stage → ℕ
+rebalance_rank Stage.Asking = 6
+rebalance_rank Stage.TakingBack = 6
+rebalance_rank Stage.Searching = 5
+rebalance_rank Stage.Cancelling = 4
+rebalance_rank Stage.Stopping = 4
+rebalance_rank Stage.Committing = 3
+rebalance_rank Stage.Stuck = 3
+rebalance_rank Stage.Restarting = 2
+rebalance_rank Stage.Failed = 2
+rebalance_rank _ = 1
 
-abbrev pub removal_rank : RemovalStage → ℕ
-removal_rank RemovalStage.Next = 4
-removal_rank (RemovalStage.Asking w) = 4
-removal_rank (RemovalStage.TakingBack w) = 3
-removal_rank (RemovalStage.Cancelling w) = 2
-removal_rank (RemovalStage.Removing w) = 2
-removal_rank RemovalStage.Settling = 2
-removal_rank RemovalStage.Ending = 1
+abbrev pub removal_rank : Stage → ℕ
+removal_rank Stage.Next = 4
+removal_rank Stage.Asking = 4
+removal_rank Stage.TakingBack = 3
+removal_rank Stage.Cancelling = 2
+removal_rank Stage.Removing = 2
+removal_rank Stage.Settling = 2
+removal_rank _ = 1
 
-abbrev pub surprise_rank : SurpriseStage → ℕ
-surprise_rank (SurpriseStage.Telling w) = 3
-surprise_rank SurpriseStage.Next = 2
-surprise_rank (SurpriseStage.Removing w) = 2
-surprise_rank SurpriseStage.Settling = 2
-surprise_rank SurpriseStage.Ending = 1
+abbrev pub surprise_rank : Stage → ℕ
+surprise_rank Stage.Telling = 3
+surprise_rank Stage.Next = 2
+surprise_rank Stage.Removing = 2
+surprise_rank Stage.Settling = 2
+surprise_rank _ = 1
 
 -- once its drivers are removed, the device is lighter, so the stage may be higher then
-abbrev pub finish_rank : FinishStage → ℕ
-finish_rank FinishStage.Next = 2
-finish_rank (FinishStage.Removing w) = 1
-finish_rank FinishStage.Leaving = 3
-finish_rank FinishStage.Holding = 3
+abbrev pub finish_rank : Stage → ℕ
+finish_rank Stage.Next = 2
+finish_rank Stage.Leaving = 3
+finish_rank Stage.Holding = 3
+finish_rank _ = 1
 
-abbrev pub rank_of : Option Operation → ℕ
+abbrev pub rank_in : Course → Job → ℕ
+rank_in Course.Rebalancing r = rebalance_rank r.stage
+rank_in Course.Removing o = removal_rank o.stage
+rank_in Course.Surprising o = surprise_rank o.stage
+rank_in Course.Finishing f = finish_rank f.stage
+
+abbrev pub rank_of : Option Job → ℕ
 rank_of None = 0
-rank_of (Some (Operation.Rebalancing r)) = rebalance_rank r.stage
-rank_of (Some (Operation.Removing o)) = removal_rank o.stage
-rank_of (Some (Operation.Surprising o)) = surprise_rank o.stage
-rank_of (Some (Operation.Finishing f)) = finish_rank f.stage
+rank_of (Some o) = rank_in (course_of o.kind) o
 
-abbrev pub rebalance_left : List ℕ → RebalanceStage → ℕ
-rebalance_left todo (RebalanceStage.Asking w) = 2 * length todo + 1
-rebalance_left todo (RebalanceStage.TakingBack w) = 2 * length todo
-rebalance_left todo RebalanceStage.Searching = 0
-rebalance_left todo (RebalanceStage.Cancelling w) = 2 * length todo
-rebalance_left todo (RebalanceStage.Stopping w) = 2 * length todo
-rebalance_left todo RebalanceStage.Committing = 0
-rebalance_left todo RebalanceStage.Stuck = 0
-rebalance_left todo (RebalanceStage.Restarting w) = 2 * length todo + 1
-rebalance_left todo RebalanceStage.Failed = 2 * length todo
-rebalance_left todo RebalanceStage.Ending = 0
+abbrev pub rebalance_left : List ℕ → Stage → ℕ
+rebalance_left todo Stage.Asking = 2 * length todo + 1
+rebalance_left todo Stage.TakingBack = 2 * length todo
+rebalance_left todo Stage.Cancelling = 2 * length todo
+rebalance_left todo Stage.Stopping = 2 * length todo
+rebalance_left todo Stage.Restarting = 2 * length todo + 1
+rebalance_left todo Stage.Failed = 2 * length todo
+rebalance_left todo _ = 0
 
-abbrev pub removal_left : List ℕ → RemovalStage → ℕ
-removal_left todo RemovalStage.Next = 2 * length todo + 1
-removal_left todo (RemovalStage.Asking w) = 2 * length todo
-removal_left todo (RemovalStage.TakingBack w) = 0
-removal_left todo (RemovalStage.Cancelling w) = 2 * length todo
-removal_left todo (RemovalStage.Removing w) = 2 * length todo + 1
-removal_left todo RemovalStage.Settling = 2 * length todo
-removal_left todo RemovalStage.Ending = 0
+abbrev pub removal_left : List ℕ → Stage → ℕ
+removal_left todo Stage.Next = 2 * length todo + 1
+removal_left todo Stage.Asking = 2 * length todo
+removal_left todo Stage.Cancelling = 2 * length todo
+removal_left todo Stage.Removing = 2 * length todo + 1
+removal_left todo Stage.Settling = 2 * length todo
+removal_left todo _ = 0
 
-abbrev pub surprise_left : List ℕ → SurpriseStage → ℕ
-surprise_left todo (SurpriseStage.Telling w) = 2 * length todo
-surprise_left todo SurpriseStage.Next = 3 * length todo + 2
-surprise_left todo (SurpriseStage.Removing w) = 3 * length todo + 1
-surprise_left todo SurpriseStage.Settling = 3 * length todo
-surprise_left todo SurpriseStage.Ending = 0
+abbrev pub surprise_left : List ℕ → Stage → ℕ
+surprise_left todo Stage.Telling = 2 * length todo
+surprise_left todo Stage.Next = 3 * length todo + 2
+surprise_left todo Stage.Removing = 3 * length todo + 1
+surprise_left todo Stage.Settling = 3 * length todo
+surprise_left todo _ = 0
 
-abbrev pub left_of : Option Operation → ℕ
+abbrev pub left_in : Course → Job → ℕ
+left_in Course.Rebalancing r = rebalance_left r.todo r.stage
+left_in Course.Removing o = removal_left o.todo o.stage
+left_in Course.Surprising o = surprise_left o.todo o.stage
+left_in Course.Finishing f = 0
+
+abbrev pub left_of : Option Job → ℕ
 left_of None = 0
-left_of (Some (Operation.Rebalancing r)) = rebalance_left r.todo r.stage
-left_of (Some (Operation.Removing o)) = removal_left o.todo o.stage
-left_of (Some (Operation.Surprising o)) = surprise_left o.todo o.stage
-left_of (Some (Operation.Finishing f)) = 0
+left_of (Some o) = left_in (course_of o.kind) o
 
 -- What is still to answer ----------------------------------------------------------------------------
 
@@ -182,9 +188,9 @@ stack_at nodes k = length (stack_of (node_at k nodes))
 abbrev pub activity_answers : List Node → Activity → ℕ
 activity_answers nodes a = answers (phase_walk a.phase) (stack_at nodes a.serial)
 
-abbrev pub answers_of : List Node → List Activity → Option Operation → ℕ
+abbrev pub answers_of : List Node → List Activity → Option Job → ℕ
 answers_of nodes activities None = sum (activity_answers nodes) activities
-answers_of nodes activities (Some o) = answers (operation_walk o) (length (stack_of (first_node nodes (todo_of o))))
+answers_of nodes activities (Some o) = answers o.walk (length (stack_of (first_node nodes o.todo)))
 
 -- One is lower -----------------------------------------------------------------------------------------
 
@@ -199,28 +205,31 @@ IsLower s t =
 pub record Falls (s t : State) : Type 0 where
   pub lower : IsLower s t
 
-rank_small : (o : Option Operation) → rank_of o ≤ 7
+rank_small : (o : Option Job) → rank_of o ≤ 7
 rank_small None = omega arith
-rank_small (Some (Operation.Rebalancing r)) = by_stage r.stage
+rank_small (Some o) = by_course (course_of o.kind)
   where
-    by_stage : (stage : RebalanceStage) → rebalance_rank stage ≤ 7
-    by_stage (RebalanceStage.Asking w) = omega arith
-    by_stage _ = omega arith
-rank_small (Some (Operation.Removing o)) = by_stage o.stage
-  where
-    by_stage : (stage : RemovalStage) → removal_rank stage ≤ 7
-    by_stage (RemovalStage.Asking w) = omega arith
-    by_stage _ = omega arith
-rank_small (Some (Operation.Surprising o)) = by_stage o.stage
-  where
-    by_stage : (stage : SurpriseStage) → surprise_rank stage ≤ 7
-    by_stage (SurpriseStage.Telling w) = omega arith
-    by_stage _ = omega arith
-rank_small (Some (Operation.Finishing f)) = by_stage f.stage
-  where
-    by_stage : (stage : FinishStage) → finish_rank stage ≤ 7
-    by_stage (FinishStage.Removing w) = omega arith
-    by_stage _ = omega arith
+    rebalance : (stage : Stage) → rebalance_rank stage ≤ 7
+    rebalance Stage.Asking = omega arith
+    rebalance _ = omega arith
+
+    removal : (stage : Stage) → removal_rank stage ≤ 7
+    removal Stage.Next = omega arith
+    removal _ = omega arith
+
+    surprise : (stage : Stage) → surprise_rank stage ≤ 7
+    surprise Stage.Telling = omega arith
+    surprise _ = omega arith
+
+    finish : (stage : Stage) → finish_rank stage ≤ 7
+    finish Stage.Next = omega arith
+    finish _ = omega arith
+
+    by_course : (course : Course) → rank_in course o ≤ 7
+    by_course Course.Rebalancing = rebalance o.stage
+    by_course Course.Removing = removal o.stage
+    by_course Course.Surprising = surprise o.stage
+    by_course Course.Finishing = finish o.stage
 
 -- less is to begin
 pub falls_coarse : (s t : State) → coarse t < coarse s → Falls s t
@@ -348,14 +357,18 @@ births_mapped f old new is keeps born =
 
 -- What is to begin is no more ----------------------------------------------------------------------------------
 
-pub operation_less : (born was : ℕ → Bool) (o : Option Operation) → ((k : ℕ) → born k ≡ true → was k ≡ true) → operation_cost born o ≤ operation_cost was o
-operation_less born was (Some (Operation.Surprising o)) h = by_test (born o.target) (was o.target) (h o.target)
+pub operation_less : (born was : ℕ → Bool) (o : Option Job) → ((k : ℕ) → born k ≡ true → was k ≡ true) → operation_cost born o ≤ operation_cost was o
+operation_less born was None h = omega arith
+operation_less born was (Some o) h = by_course (course_of o.kind)
   where
     by_test : (a b : Bool) → (a ≡ true → b ≡ true) → cond a 5 1 ≤ cond b 5 1
     by_test true b g = subst (λ (x : Bool). 5 ≤ cond x 5 1) (sym (g refl)) (omega arith)
     by_test false true g = omega arith
     by_test false false g = omega arith
-operation_less born was _ h = omega arith
+
+    by_course : (course : Course) → cost_in born course o ≤ cost_in was course o
+    by_course Course.Surprising = by_test (born o.target) (was o.target) (h o.target)
+    by_course _ = omega arith
 
 -- what tasks, activities and operation of a state cost by the births of another, and what the devices of another weigh in it
 abbrev pub costs : State → State → ℕ
@@ -393,7 +406,7 @@ pub coarse_by : (s t : State) → SameBirths s.core.nodes t.core.nodes → t.wor
 coarse_by s t same world light opens less = let l = coarse_no_more s t same world light opens in omega arith
 
 -- tasks stay, and the target of a surprise removal
-pub open_same : (tasks more : List Task) (o p : Option Operation) (k : ℕ) → more ≡ tasks → is_target p k ≡ is_target o k → is_open more p k ≡ true → is_open tasks o k ≡ true
+pub open_same : (tasks more : List Task) (o p : Option Job) (k : ℕ) → more ≡ tasks → is_target p k ≡ is_target o k → is_open more p k ≡ true → is_open tasks o k ≡ true
 open_same tasks more o p k e target h =
     ap (λ (b : Bool). not (list_any (is_surprise_of k) tasks) && not b) (sym target) ∙ (ap (λ (ts : List Task). not (list_any (is_surprise_of k) ts) && not (is_target p k)) (sym e) ∙ h)
 

@@ -9,7 +9,6 @@ use Rattle.std.proofs.lemmas.List.{length-map}
 use Rattle.device_ids.specs.Folding.{same}
 use Rattle.resource_reqs.proofs.Counts.{contains_cons, contains_nil}
 use Rattle.resource_reqs.specs.Resources.{AltList, Reqs}
-use Rattle.resource_reqs.specs.Spelling.Answer.{no_fit}
 use Rattle.resource_reqs.specs.declared.kind.Kind.{Kind}
 use Rattle.pnp_labels.specs.Texts.{Text}
 use Rattle.pnp_labels.specs.declared.event.Event.{Event}
@@ -20,19 +19,21 @@ use Rattle.pnp_model.specs.Laws.{Reaches}
 use Rattle.pnp_model.specs.Events.{answer_of, completed}
 use Rattle.pnp_model.specs.Keyed.{those}
 use Rattle.pnp_model.specs.Rebalances.{begun_change, begun_rebalance, is_asked, reqs_after}
-use Rattle.pnp_model.specs.Records.{Device, Driver, Node, Operation, Rebalance, RebalanceStage, Settings, State, Step}
+use Rattle.pnp_model.specs.Records.{Device, Driver, Node, Settings, State, Step, Job, Course, course_of}
 use Rattle.pnp_model.specs.Runs.{Entry, Run, opening, printed, root_path}
 use Rattle.pnp_model.specs.Runs.Entry.{Happens, Did, Declines}
 use Rattle.pnp_model.specs.States.{device_born, new_child, without_those}
 use Rattle.pnp_model.specs.Tasks.{begin, joins}
 use Rattle.pnp_model.specs.Windows.{Room, clip, clip_by, clipped_want, room}
+use Rattle.pnp_laws.specs.Words.{spared_in}
 use Rattle.pnp_laws.specs.Effects.{AnswerEffect, BeginsFor, NodeEffect, OpEffect, OperationEffect, SameWork, WorldEffect, begun, required}
 use Rattle.pnp_laws.specs.Held.{AreWithin}
-use Rattle.pnp_laws.specs.Kept.{Ascending, IsGood, OperationFits, RebalanceKeeps, TargetFits}
+use Rattle.pnp_laws.specs.Kept.{Ascending, IsGood, TargetFits}
 use Rattle.pnp_laws.specs.Needs.{IsChanged, IsEntryWithin, IsPlugged, IsRoot, IsSaid, NeedsLaw, PluggedLaw}
 use Rattle.pnp_laws.proofs.EffectViews.{Origin, origin}
 use Rattle.pnp_laws.proofs.EffectsOf.{effect_goes}
-use Rattle.pnp_laws.proofs.EffectsOfOperations.{completed_work, re_ask_on}
+use Rattle.pnp_laws.proofs.FitsBy.{rebalance_fits}
+use Rattle.pnp_laws.proofs.EffectsOfOperations.{begun_work, completed_work, re_ask_on}
 use Rattle.pnp_laws.proofs.JoinMachine.{reaches_born}
 use Rattle.pnp_laws.proofs.JoinSteps.{in_find}
 use Rattle.pnp_laws.proofs.Joins.{Born, Grows, In, in_changed, sub_in, sub_without}
@@ -41,6 +42,7 @@ use Rattle.pnp_laws.proofs.Reached.{reached_is_good}
 use Rattle.pnp_laws.proofs.Reaching.{run_on}
 use Rattle.pnp_laws.proofs.RoomsKept.{rooms_stay}
 use Rattle.pnp_laws.proofs.Runs.{root_is}
+use Rattle.pnp_model.specs.Jobs.{job_of}
 
 -- what holds of how a device was plugged: of its birth number, its path, its IDs and its requirements
 abbrev Says : Type 1
@@ -67,7 +69,7 @@ WorldSays Q world = (d : Device) → In d world → OfDevice Q d
 -- of what a change wants for its target
 abbrev WantsSay : Says → State → Type 0
 WantsSay Q s =
-    (r : Rebalance) (wanted : Reqs) → s.operation ≡ Some (Operation.Rebalancing r) → r.wanted ≡ Some wanted → (n : Node) → node_at r.target s.core.nodes ≡ Some n → OfReqs Q s n wanted
+    (r : Job) (wanted : Reqs) → s.operation ≡ Some r → course_of r.kind ≡ Course.Rebalancing → r.wanted ≡ Some wanted → (n : Node) → node_at r.target s.core.nodes ≡ Some n → OfReqs Q s n wanted
 
 -- it holds of more after an entry of a run: of what an event plugs and changes
 record SaysOn (Q R : Says) (entry : Entry) : Type 0 where
@@ -105,7 +107,7 @@ named s label t k _ (Origin.troubled n problem at) = Named.stays n at (record { 
 named s label t k _ (Origin.stacks n d ds name at acts prints) = Named.stays n at (record { born = refl; parent = refl; path = refl; hw = refl; compat = refl })
 named s label t k _ (Origin.assigned n phase plan at acts search part now) = Named.stays n at (record { born = refl; parent = refl; path = refl; hw = refl; compat = refl })
 named s label t k _ (Origin.stripped n w at request prints) = Named.stays n at (record { born = refl; parent = refl; path = refl; hw = refl; compat = refl })
-named s label t k _ (Origin.commits r n runs is at) = Named.stays n at (record { born = refl; parent = refl; path = refl; hw = refl; compat = refl })
+named s label t k _ (Origin.commits r n runs course is at) = Named.stays n at (record { born = refl; parent = refl; path = refl; hw = refl; compat = refl })
 named s label t k _ (Origin.joins node d below gone own) = Named.joined node d (in_find (joins node.born s.core.nodes) s.world d below).1 gone refl
 
 -- two devices of the world have two birth numbers
@@ -216,23 +218,23 @@ all_stay Q R entry s on all =
       nodes = λ k n at. let h = all.nodes k n at in (h.0, on.stays n.born n.path n.hw n.compat h.0 h.1, h.2, h.3);
       world = λ d i. on.stays d.born d.path d.hw d.compat d.reqs (all.world d i);
       twins = all.twins;
-      wants = λ r wanted run is n at. let h = all.wants r wanted run is n at in (h.0, on.stays n.born n.path n.hw n.compat h.0 h.1, h.2);
+      wants = λ r wanted run course is n at. let h = all.wants r wanted run course is n at in (h.0, on.stays n.born n.path n.hw n.compat h.0 h.1, h.2);
     }
 
 module _ (Q : Says) (s : State) (label : Label) (t : State) (old : AllSay Q s) (good : IsGood s) where
   -- at the commit of a change its target requires what was wanted
-  commits_say : (r : Rebalance) (k : ℕ) (n : Node) (wanted : Option Reqs) → s.operation ≡ Some (Operation.Rebalancing r) → r.wanted ≡ wanted → node_at k s.core.nodes ≡ Some n → (b : Bool) → (n.serial == r.target) ≡ b
+  commits_say : (r : Job) (k : ℕ) (n : Node) (wanted : Option Reqs) → s.operation ≡ Some r → course_of r.kind ≡ Course.Rebalancing → r.wanted ≡ wanted → node_at k s.core.nodes ≡ Some n → (b : Bool) → (n.serial == r.target) ≡ b
       → (said : Reqs) × Q n.born n.path n.hw n.compat said × (reqs_after wanted r.target n ≡ clip s.windows s.core.nodes n.parent said) × (k ≡ 0 → said ≡ [])
-  commits_say r k n None runs is at b e = old.nodes k n at
-  commits_say r k n (Some wanted) runs is at false e =
+  commits_say r k n None runs course is at b e = old.nodes k n at
+  commits_say r k n (Some wanted) runs course is at false e =
       let h = old.nodes k n at in
       (h.0, h.1, ap (λ (b : Bool). cond b wanted n.reqs) e ∙ h.2, h.3)
-  commits_say r k n (Some wanted) runs is at true e =
+  commits_say r k n (Some wanted) runs course is at true e =
       let own = own_serial k n s.core.nodes at in
       let target : r.target ≡ k = grind (arith, nat_tests) in
-      let fits : RebalanceKeeps r r.stage s.core.nodes = subst (λ (x : Option Operation). OperationFits x s.core.nodes) runs good.fits in
+      let fits = rebalance_fits s r good runs course in
       let waits : TargetFits (Some wanted) r.target s.core.nodes = subst (λ (x : Option Reqs). TargetFits x r.target s.core.nodes) is fits.waits in
-      let h = old.wants r wanted runs is n (subst (λ (i : ℕ). node_at i s.core.nodes ≡ Some n) (sym target) at) in
+      let h = old.wants r wanted runs course is n (subst (λ (i : ℕ). node_at i s.core.nodes ≡ Some n) (sym target) at) in
       (h.0, h.1, ap (λ (b : Bool). cond b wanted n.reqs) e ∙ h.2, λ (z : k ≡ 0). absurd (waits.3 (target ∙ z)))
 
   -- by what came through before
@@ -243,7 +245,7 @@ module _ (Q : Says) (s : State) (label : Label) (t : State) (old : AllSay Q s) (
   node_says k _ (Origin.stacks n d ds name at acts prints) = old.nodes k n at
   node_says k _ (Origin.assigned n phase plan at acts search part now) = old.nodes k n at
   node_says k _ (Origin.stripped n w at request prints) = old.nodes k n at
-  node_says k _ (Origin.commits r n runs is at) = commits_say r k n r.wanted runs refl at (n.serial == r.target) refl
+  node_says k _ (Origin.commits r n runs course is at) = commits_say r k n r.wanted runs course refl at (n.serial == r.target) refl
   node_says k _ (Origin.joins node d below gone own) =
       (d.reqs, old.world d (in_find (joins node.born s.core.nodes) s.world d below).1, refl, λ (z : k ≡ 0). absurd (let begun = good.begun in omega arith))
 
@@ -280,13 +282,13 @@ module _ (Q : Says) (s : State) (label : Label) (t : State) (old : AllSay Q s) (
             )
 
     -- the change goes on
-    goes_say : (r p : Rebalance) → s.operation ≡ Some (Operation.Rebalancing r) → p.target ≡ r.target → p.wanted ≡ r.wanted → NodeEffect s label t
+    goes_say : (r p : Job) → s.operation ≡ Some r → course_of r.kind ≡ Course.Rebalancing → p.target ≡ r.target → p.wanted ≡ r.wanted → NodeEffect s label t
         → (wanted : Reqs) → p.wanted ≡ Some wanted → (m : Node) → node_at p.target t.core.nodes ≡ Some m → OfReqs Q t m wanted
-    goes_say r p runs target same_wanted effect wanted is m now =
-        let fits : RebalanceKeeps r r.stage s.core.nodes = subst (λ (x : Option Operation). OperationFits x s.core.nodes) runs good.fits in
+    goes_say r p runs course target same_wanted effect wanted is m now =
+        let fits = rebalance_fits s r good runs course in
         let own : r.wanted ≡ Some wanted = sym same_wanted ∙ is in
         let waits : TargetFits (Some wanted) r.target s.core.nodes = subst (λ (x : Option Reqs). TargetFits x r.target s.core.nodes) own fits.waits in
-        reqs_say r.target waits.0 m wanted effect waits.3 waits.1 (subst (λ (i : ℕ). node_at i t.core.nodes ≡ Some m) target now) (old.wants r wanted runs own waits.0 waits.1)
+        reqs_say r.target waits.0 m wanted effect waits.3 waits.1 (subst (λ (i : ℕ). node_at i t.core.nodes ≡ Some m) target now) (old.wants r wanted runs course own waits.0 waits.1)
 
 -- the device that a birth number names
 device_in : (born : ℕ) (world : List Device) (d : Device) → device_born born world ≡ Some d → In d world × (d.born ≡ born)
@@ -295,17 +297,13 @@ device_in born world d e =
 
 module _ (Q : Says) (s : State) (entry : Entry) (t : State) (old : AllSay Q s) (good : IsGood s) (nodes : NodeEffect s (printed entry) t)
     (rooms : (k : ℕ) (m : Node) → node_at k t.core.nodes ≡ Some m → k ≢ 0 → room t.windows t.core.nodes m.parent ≡ room s.windows s.core.nodes m.parent) where
-  on_say : (o p : Operation) → s.operation ≡ Some o → t.operation ≡ Some p → SameWork o p → WantsSay Q t
-  on_say o p runs now work r wanted run is n at = by_old o runs (subst (λ (x : Operation). SameWork o x) same_operation work)
-    where
-      same_operation : p ≡ Operation.Rebalancing r
-      same_operation = cc
-
-      by_old : (q : Operation) → s.operation ≡ Some q → SameWork q (Operation.Rebalancing r) → OfReqs Q t n wanted
-      by_old (Operation.Rebalancing q) runs work = goes_say Q s (printed entry) t old good rooms q r runs (let spared = work.spared in cc) work.wanted nodes wanted is n at
-      by_old (Operation.Removing q) runs work = absurd (let none = work.wanted in cc)
-      by_old (Operation.Surprising q) runs work = absurd (let none = work.wanted in cc)
-      by_old (Operation.Finishing q) runs work = absurd (let none = work.wanted in cc)
+  on_say : (o p : Job) → s.operation ≡ Some o → t.operation ≡ Some p → SameWork o p → WantsSay Q t
+  on_say o p runs now work r wanted run course is n at =
+      let same_operation : p ≡ r = cc in
+      let same_work = subst (λ (x : Job). SameWork o x) same_operation work in
+      let old_course : course_of o.kind ≡ Course.Rebalancing = sym (ap course_of same_work.kind) ∙ course in
+      let targets : r.target ∷ [] ≡ o.target ∷ [] = sym (ap (λ (x : Course). spared_in r x) course) ∙ same_work.spared ∙ ap (λ (x : Course). spared_in o x) old_course in
+      goes_say Q s (printed entry) t old good rooms o r runs old_course (cc) same_work.wanted nodes wanted is n at
 
   -- a change begins for what its device requires in the world
   change_begins : (node : Node) (o : Option Device) → device_born node.born s.world ≡ o → is_some o ≡ true → node_at node.serial s.core.nodes ≡ Some node → OfReqs Q s node (required s node o)
@@ -320,34 +318,40 @@ module _ (Q : Says) (s : State) (entry : Entry) (t : State) (old : AllSay Q s) (
         refl,
       )
 
+  -- no other operation wants anything
+  other_begins : {A : Type 0} (kind : OpKind) (node : Node) (r : Job) → (begin s kind node (begun s kind node)).state.operation ≡ Some r → course_of r.kind ≡ Course.Rebalancing → (course_of kind ≡ Course.Rebalancing → ⊥) → A
+  other_begins kind node r run course other =
+      let own : begun s kind node ≡ r = cc in
+      absurd (other (sym (ap course_of (begun_work s kind node).0) ∙ ap (λ (x : Job). course_of x.kind) own ∙ course))
+
   begins_say : (kind : OpKind) (node : Node) → node_at node.serial s.core.nodes ≡ Some node → BeginsFor s kind node → WantsSay Q (begin s kind node (begun s kind node)).state
-  begins_say OpKind.Change node at (up, some) r wanted run is n there =
+  begins_say OpKind.Change node at (up, some) r wanted run course is n there =
       let first = change_begins node (device_born node.born s.world) refl some at in
-      let frame = (re_ask_on (record { target = node.serial; path = node.path; wanted = Some (required s node (device_born node.born s.world)); todo = []; agreed = []; refused = []; found = no_fit; stage = RebalanceStage.Searching }) (reverse (serials_of (those is_asked s.core.nodes)))).0 in
+      let frame = re_ask_on (record (job_of OpKind.Change node) { wanted = Some (required s node (device_born node.born s.world)) }) (reverse (serials_of (those is_asked s.core.nodes))) in
       let own : begun_change s.core node (required s node (device_born node.born s.world)) ≡ r = cc in
-      let target : r.target ≡ node.serial = ap (λ (x : Rebalance). x.target) (sym own) ∙ frame.1 in
-      let wants : Some wanted ≡ Some (required s node (device_born node.born s.world)) = sym is ∙ ap (λ (x : Rebalance). x.wanted) (sym own) ∙ frame.3 in
+      let target : r.target ≡ node.serial = ap (λ (x : Job). x.target) (sym own) ∙ frame.target in
+      let wants : Some wanted ≡ Some (required s node (device_born node.born s.world)) = sym is ∙ ap (λ (x : Job). x.wanted) (sym own) ∙ frame.work.wanted in
       let one : node ≡ n = some_same (node_at node.serial s.core.nodes) node n at (subst (λ (i : ℕ). node_at i s.core.nodes ≡ Some n) target there) in
       let same_wanted : required s node (device_born node.born s.world) ≡ wanted = cc in
       subst (λ (x : Node). OfReqs Q s x wanted) one (subst (λ (x : Reqs). OfReqs Q s node x) same_wanted first)
-  begins_say OpKind.Rebalance node at h r wanted run is n there =
-      let frame = (re_ask_on (record { target = node.serial; path = node.path; wanted = None; todo = []; agreed = []; refused = []; found = no_fit; stage = RebalanceStage.Searching }) (reverse (serials_of (those is_asked s.core.nodes)))).0 in
+  begins_say OpKind.Rebalance node at h r wanted run course is n there =
+      let frame = re_ask_on (record (job_of OpKind.Rebalance node) { wanted = None }) (reverse (serials_of (those is_asked s.core.nodes))) in
       let own : begun_rebalance s.core node ≡ r = cc in
-      let none : r.wanted ≡ None = ap (λ (x : Rebalance). x.wanted) (sym own) ∙ frame.3 in
+      let none : r.wanted ≡ None = ap (λ (x : Job). x.wanted) (sym own) ∙ frame.work.wanted in
       absurd (cc)
-  begins_say OpKind.Disable node at h r wanted run is n there = absurd (cc)
-  begins_say OpKind.Eject node at h r wanted run is n there = absurd (cc)
-  begins_say OpKind.Surprise node at h r wanted run is n there = absurd (cc)
-  begins_say OpKind.Finish node at h r wanted run is n there = absurd (cc)
+  begins_say OpKind.Disable node at h r wanted run course is n there = other_begins OpKind.Disable node r run course (λ q. cc)
+  begins_say OpKind.Eject node at h r wanted run course is n there = other_begins OpKind.Eject node r run course (λ q. cc)
+  begins_say OpKind.Surprise node at h r wanted run course is n there = other_begins OpKind.Surprise node r run course (λ q. cc)
+  begins_say OpKind.Finish node at h r wanted run course is n there = other_begins OpKind.Finish node r run course (λ q. cc)
 
   step_wants : (label : Label) → OpEffect s label t → WantsSay Q t
-  step_wants label (OpEffect.idles none now prints) r wanted run is n at = absurd (cc)
-  step_wants label (OpEffect.begins kind node none alone at fits is) r wanted run own n found = (subst (λ (x : Step). WantsSay Q x.state) (sym is) (begins_say kind node at fits)) r wanted run own n found
-  step_wants label (OpEffect.goes o p runs now work prints) r wanted run own n found = on_say o p runs now work r wanted run own n found
-  step_wants label (OpEffect.ends o result runs now prints by over) r wanted run is n at = absurd (cc)
+  step_wants label (OpEffect.idles none now prints) r wanted run course is n at = absurd (cc)
+  step_wants label (OpEffect.begins kind node none alone at fits is) r wanted run course own n found = (subst (λ (x : Step). WantsSay Q x.state) (sym is) (begins_say kind node at fits)) r wanted run course own n found
+  step_wants label (OpEffect.goes o p runs now work prints) r wanted run course own n found = on_say o p runs now work r wanted run course own n found
+  step_wants label (OpEffect.ends o result runs now prints by over) r wanted run course is n at = absurd (cc)
 
   still_wants : t.operation ≡ s.operation → WantsSay Q t
-  still_wants now r wanted run is n at = goes_say Q s (printed entry) t old good rooms r r (sym now ∙ run) refl refl nodes wanted is n at
+  still_wants now r wanted run course is n at = goes_say Q s (printed entry) t old good rooms r r (sym now ∙ run) course refl refl nodes wanted is n at
 
   event_wants : (label : Label) → AnswerEffect s label t → WantsSay Q t
   event_wants label (AnswerEffect.stays word same acts now) = still_wants now
@@ -399,7 +403,7 @@ says_all P along settings rack entries s run root =
       nodes = λ k n at. subst (λ (x : Node). OfNode (P []) (opening rack) k x) (root_is k n at).0 ([], root, refl, λ z. refl);
       world = of_root;
       twins = twins_root;
-      wants = λ r wanted run is n at. absurd (cc);
+      wants = λ r wanted run course is n at. absurd (cc);
     })
   where
     of_root : WorldSays (P []) (opening rack).world

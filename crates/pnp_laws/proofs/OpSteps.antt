@@ -4,7 +4,7 @@ use Rattle.std.proofs.lemmas.Bool.{cases_eq}
 use Rattle.std.proofs.lemmas.Bool.Decides.{nat_tests}
 use Rattle.std.proofs.lemmas.List.{reverse-append}
 use Rattle.pnp_model.specs.Keyed.{changed_first}
-use Rattle.pnp_model.specs.Records.{Node, State, Operation}
+use Rattle.pnp_model.specs.Records.{Node, State, Job}
 use Rattle.pnp_model.specs.Cores.{is_node, node_at}
 use Rattle.pnp_model.specs.Tests.{has, is_started, is_surprise_removed}
 use Rattle.pnp_laws.specs.Kept.{Good, Lawful, Each, HasStackOf, OperationFits, Distinct, Waits, Changes, TargetFits, is_changing, is_calm, is_stopped, is_stop_pending, is_remove_pending}
@@ -17,7 +17,7 @@ use Rattle.pnp_laws.proofs.Kept.{lawful_by, Good_changed, Good_nodes}
 use Rattle.pnp_laws.proofs.Lists.{has-append}
 
 -- one node is changed, and the operation goes on
-pub lawful_walked : (s t : State) (f : Node → Node) (node : Node) (o p : Operation) → t.next_serial ≡ s.next_serial →
+pub lawful_walked : (s t : State) (f : Node → Node) (node : Node) (o p : Job) → t.next_serial ≡ s.next_serial →
     t.core.nodes ≡ changed_first (is_node node.serial) f s.core.nodes → t.activities ≡ [] → t.operation ≡ Some p → ((x : Node) → (f x).serial ≡ x.serial) →
     node_at node.serial s.core.nodes ≡ Some node → HasStackOf node.serial (f node).state (f node).stack → OperationFits (Some p) (changed_first (is_node node.serial) f s.core.nodes) →
     Good s.next_serial s.core.nodes [] (Some o) → Lawful t
@@ -26,14 +26,14 @@ lawful_walked s t f node o p a b c d keeps at stack fits good =
     (Good_changed s.next_serial node.serial f node s.core.nodes [] [] (Some o) (Some p) keeps at stack tt (λ k d. refl) (λ x g. absurd (cc)) refl fits good)
 
 -- no node is changed, and the operation goes on
-pub lawful_still : (s t : State) (o p : Operation) → t.next_serial ≡ s.next_serial → t.core.nodes ≡ s.core.nodes → t.activities ≡ [] → t.operation ≡ Some p →
+pub lawful_still : (s t : State) (o p : Job) → t.next_serial ≡ s.next_serial → t.core.nodes ≡ s.core.nodes → t.activities ≡ [] → t.operation ≡ Some p →
     OperationFits (Some p) s.core.nodes → Good s.next_serial s.core.nodes [] (Some o) → Lawful t
 lawful_still s t o p a b c d fits good =
     lawful_by t s.next_serial s.core.nodes [] (Some p) a b c d
     (Good_nodes s.next_serial s.core.nodes [] [] (Some o) (Some p) tt (λ k x g. absurd (cc)) refl fits good)
 
 -- the operation closes, and nothing follows
-pub lawful_close : (s t : State) (o : Operation) → t.next_serial ≡ s.next_serial → t.core.nodes ≡ s.core.nodes → t.activities ≡ [] → t.operation ≡ None →
+pub lawful_close : (s t : State) (o : Job) → t.next_serial ≡ s.next_serial → t.core.nodes ≡ s.core.nodes → t.activities ≡ [] → t.operation ≡ None →
     Each (λ k x. is_calm x) s.core.nodes → Good s.next_serial s.core.nodes [] (Some o) → Lawful t
 lawful_close s t o a b c d fits good =
     lawful_by t s.next_serial s.core.nodes [] None a b c d

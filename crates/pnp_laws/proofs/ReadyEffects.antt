@@ -16,52 +16,50 @@ use Rattle.pnp_model.specs.Frames.{first_node}
 use Rattle.pnp_model.specs.Handles.{closed_with, comes_after, is_handle_of, is_open, one_less, one_more, opened, opened_with}
 use Rattle.pnp_model.specs.Keyed.{changed_first, put_before, without_first}
 use Rattle.pnp_model.specs.Rebalances.{committed, movers, plan_of}
-use Rattle.pnp_model.specs.Records.{Duty, Handle, Node, Operation, Phase, RebalanceStage, RemovalStage, State, Step, Task, Walk}
+use Rattle.pnp_model.specs.Records.{Course, Duty, Handle, Job, Node, Phase, Stage, State, Step, Task, Walk, course_of}
 use Rattle.pnp_model.specs.Runs.{Entry}
 use Rattle.pnp_model.specs.States.{new_child}
 use Rattle.pnp_model.specs.Tests.{is_surprise_removed}
 use Rattle.pnp_model.specs.Walks.{state_after}
-use Rattle.pnp_laws.specs.Effects.{Alters, HandleEffect, NodeEffect, Request, Running, Turn, operation_minor, rebalance_minor, removal_minor, to_leave, todo_of}
-use Rattle.pnp_laws.specs.Waiting.{NeitherRuns, is_to_finish}
+use Rattle.pnp_laws.specs.Effects.{Alters, HandleEffect, NodeEffect, Request, Running, Turn, to_leave}
+use Rattle.pnp_laws.specs.Waiting.{IsNeither, NeitherRuns, is_to_finish}
 use Rattle.pnp_laws.proofs.Asked.{left_bare}
 use Rattle.pnp_laws.proofs.DependentsTold.{kept_told}
 use Rattle.pnp_laws.proofs.EffectViews.{Origin, acting_fits, alters_keeps, origin}
+use Rattle.pnp_laws.proofs.EffectsOfOperations.{turn_work}
 use Rattle.pnp_laws.proofs.FirstFinish.{finish_last}
 use Rattle.pnp_laws.proofs.Lists.{head_found, head_has}
 use Rattle.pnp_laws.proofs.Lookups.{node_found, some_same}
 use Rattle.pnp_laws.proofs.Readied.{AllBare, bare_changed, bare_joined, bare_left, bare_mapped, bare_related, bare_still, bare_stripped}
-use Rattle.pnp_laws.proofs.Standing.{Kept, RemovalTold}
+use Rattle.pnp_laws.proofs.Standing.{Kept, RemovalTold, told_by}
 use Rattle.pnp_laws.proofs.Tolds.{was_waiting}
 use Rattle.pnp_laws.proofs.Turns.{running_good}
 use Rattle.pnp_laws.proofs.TurnsKept.{running_told}
+use Rattle.pnp_laws.proofs.FitsBy.{asked_is}
+use Rattle.pnp_laws.specs.Kept.{asked_in}
 
 -- Which requests are made ------------------------------------------------------------------------------
 
-turn_neither : (s : State) (o p : Operation) → Turn s o p → NeitherRuns (Some o) → NeitherRuns (Some p)
-turn_neither s _ _ (Turn.same o) h = h
-turn_neither s _ _ (Turn.queries o node is first asks) h = tt
-turn_neither s _ _ (Turn.removes o node d ds is first goes full) h = absurd h
-turn_neither s _ _ (Turn.settles o node is first goes none) h = absurd h
-turn_neither s _ _ (Turn.finishes f k node is ready at) h = absurd h
+turn_neither : (s : State) (o p : Job) → Turn s o p → NeitherRuns (Some o) → NeitherRuns (Some p)
+turn_neither s o p turn h = subst (λ (x : OpKind). IsNeither (course_of x)) (sym (turn_work s o p turn).kind) h
 
 -- no device is told that it has gone
-untelling : (o : Operation) → NeitherRuns (Some o) → operation_minor o ≡ Some SurpriseRemoval → ⊥
-untelling (Operation.Rebalancing r) neither is = by_stage r.stage is
+untelling : (course : Course) (stage : Stage) → IsNeither course → asked_in course stage ≡ Some SurpriseRemoval → ⊥
+untelling Course.Rebalancing stage neither is = rebalance stage is
   where
-    by_stage : (stage : RebalanceStage) → rebalance_minor stage ≡ Some SurpriseRemoval → ⊥
-    by_stage (RebalanceStage.Asking w) e = cc
-    by_stage _ e = cc
-untelling (Operation.Removing o) neither is = by_stage o.stage is
+    rebalance : (stage : Stage) → asked_in Course.Rebalancing stage ≡ Some SurpriseRemoval → ⊥
+    rebalance Stage.Asking e = cc
+    rebalance _ e = cc
+untelling Course.Removing stage neither is = removal stage is
   where
-    by_stage : (stage : RemovalStage) → removal_minor stage ≡ Some SurpriseRemoval → ⊥
-    by_stage (RemovalStage.Asking w) e = cc
-    by_stage _ e = cc
-untelling (Operation.Surprising o) neither is = neither
-untelling (Operation.Finishing f) neither is = neither
+    removal : (stage : Stage) → asked_in Course.Removing stage ≡ Some SurpriseRemoval → ⊥
+    removal Stage.Asking e = cc
+    removal _ e = cc
+untelling _ stage neither is = neither
 
 -- a rebalance removes no drivers
-unremoving : (stage : RebalanceStage) → rebalance_minor stage ≡ Some Remove → ⊥
-unremoving (RebalanceStage.Asking w) e = cc
+unremoving : (stage : Stage) → asked_in Course.Rebalancing stage ≡ Some Remove → ⊥
+unremoving Stage.Asking e = cc
 unremoving _ e = cc
 
 told_before : (minor : Minor) (bad : Bool) (x : DevState) → state_after minor bad x ≡ SurpriseRemoved → (minor ≡ SurpriseRemoval) ⊎ (x ≡ SurpriseRemoved)
@@ -87,31 +85,33 @@ stacked_full NoStack h = refl
 stacked_full _ h = h
 
 module _ (s : State) (kept : Kept s) (neither : NeitherRuns s.operation) where
-  running_neither : (o : Operation) → Running s o → NeitherRuns (Some o)
-  running_neither o running = turn_neither s running.before o running.turn (subst (λ (x : Option Operation). NeitherRuns x) running.runs neither)
+  running_neither : (o : Job) → Running s o → NeitherRuns (Some o)
+  running_neither o running = turn_neither s running.before o running.turn (subst (λ (x : Option Job). NeitherRuns x) running.runs neither)
 
   asks_no_surprise : (node : Node) (minor : Minor) (w : Walk) → Request s node minor w → minor ≡ SurpriseRemoval → ⊥
   asks_no_surprise node _ _ (Request.starts w acts) is = cc
   asks_no_surprise node _ _ (Request.undoes w acts) is = cc
-  asks_no_surprise node minor w (Request.operates _ _ asks) is = untelling asks.operation (running_neither asks.operation asks.runs) (asks.minor_is ∙ ap Some is)
+  asks_no_surprise node _ w (Request.operates _ asks) is =
+      let o = asks.operation in
+      untelling (course_of o.kind) o.stage (running_neither o asks.runs) (asked_is o s.core.nodes w (running_good s o asks.runs kept.good).fits asks.walk ∙ ap Some is)
 
   -- who loses its drivers does not wait
   loser_untold : (node : Node) (minor : Minor) (w : Walk) → node_at node.serial s.core.nodes ≡ Some node → Request s node minor w → minor ≡ Remove → node.state ≢ SurpriseRemoved
   loser_untold node _ _ at (Request.starts w acts) is state = cc
   loser_untold node _ _ at (Request.undoes w acts) is state = let fit : node.state ≡ NotStarted = (acting_fits s node.serial node (Phase.Removing w) at acts kept.good).1 in cc
-  loser_untold node minor w at (Request.operates _ _ asks) is state =
-      by_operation asks.operation asks.first (asks.minor_is ∙ ap Some is) (running_neither asks.operation asks.runs) asks.runs state
+  loser_untold node _ w at (Request.operates _ asks) is state =
+      by_course (course_of asks.operation.kind) refl (asked_is asks.operation s.core.nodes w (running_good s asks.operation asks.runs kept.good).fits asks.walk ∙ ap Some is) (running_neither asks.operation asks.runs)
     where
-      by_operation : (o : Operation) → first_node s.core.nodes (todo_of o) ≡ Some node → operation_minor o ≡ Some Remove → NeitherRuns (Some o) → Running s o → node.state ≢ SurpriseRemoved
-      by_operation (Operation.Rebalancing r) first e none running = absurd (unremoving r.stage e)
-      by_operation (Operation.Removing o) first e none running = by_stage o.stage e (running_told s (Operation.Removing o) running kept)
-        where
-          by_stage : (stage : RemovalStage) → removal_minor stage ≡ Some Remove → RemovalTold s.core o stage → node.state ≢ SurpriseRemoved
-          by_stage (RemovalStage.Removing v) e told = told.1 node.serial node (head_has node.serial o.todo (head_found s.core.nodes o.todo node first).0) at
-          by_stage (RemovalStage.Asking v) e told = absurd (cc)
-          by_stage _ e told = absurd (cc)
-      by_operation (Operation.Surprising o) first e none running = absurd none
-      by_operation (Operation.Finishing f) first e none running = absurd none
+      by_stage : (o : Job) (stage : Stage) → first_node s.core.nodes o.todo ≡ Some node → asked_in Course.Removing stage ≡ Some Remove → RemovalTold s.core o stage → ⊥
+      by_stage o Stage.Removing first e told = told.1 node.serial node (head_has node.serial o.todo (head_found s.core.nodes o.todo node first).0) at state
+      by_stage o Stage.Asking first e told = cc
+      by_stage o _ first e told = cc
+
+      by_course : (course : Course) → course_of asks.operation.kind ≡ course → asked_in course asks.operation.stage ≡ Some Remove → IsNeither course → ⊥
+      by_course Course.Rebalancing course e none = unremoving asks.operation.stage e
+      by_course Course.Removing course e none =
+          by_stage asks.operation asks.operation.stage asks.first e (told_by Course.Removing asks.operation s.core course (running_told s asks.operation asks.runs kept))
+      by_course _ course e none = none
 
   -- Nodes and relations ----------------------------------------------------------------------------------
 
@@ -127,7 +127,7 @@ module _ (s : State) (kept : Kept s) (neither : NeitherRuns s.operation) where
     from _ (Origin.stacks n d ds name at acts prints) told = (n, at, stacked_told n.state told)
     from _ (Origin.assigned n phase plan at acts search part same) told = (n, at, told)
     from _ (Origin.stripped n w at request prints) told = absurd (cc)
-    from _ (Origin.commits r n runs is at) told = (n, at, told)
+    from _ (Origin.commits r n runs course is at) told = (n, at, told)
     from _ (Origin.joins node d below gone own) told = absurd (cc)
 
     pub waited : (n : Node) × (node_at k s.core.nodes ≡ Some n) × (n.state ≡ SurpriseRemoved)
@@ -161,7 +161,7 @@ module _ (s : State) (kept : Kept s) (neither : NeitherRuns s.operation) where
         let ids = alters_keeps s label t j f alters in
         bare_changed s.core k j f ids.serial ids.parent (alters_bare j f alters) (bare_still (change_node j f s.core) t.core k a b bare)
     bare_was bare (NodeEffect.stripped node w there request ends prints a b) = bare_loser node w there request a (bare_still (strip node.serial s.core) t.core k a b bare)
-    bare_was bare (NodeEffect.commits r runs is a b) = bare_mapped s.core t.core k (committed r.wanted r.target (movers r) (plan_of r.found)) a b (λ x. refl) (λ x. refl) (λ x. refl) bare
+    bare_was bare (NodeEffect.commits r runs course is a b) = bare_mapped s.core t.core k (committed r.wanted r.target (movers r) (plan_of r.found)) a b (λ x. refl) (λ x. refl) (λ x. refl) bare
     bare_was bare (NodeEffect.joins node d none there up below is) = bare_joined s.core k (new_child node.serial d s) (subst (λ (x : Step). AllBare x.state.core k) is bare)
     bare_was bare (NodeEffect.left node o runs first a b) =
         bare_left s.core k node.serial node (head_found s.core.nodes (to_leave o) node first).1 (left_bare o s.core.nodes node (running_good s o runs kept.good).fits first) (bare_still (drop_node node.serial s.core) t.core k a b bare)

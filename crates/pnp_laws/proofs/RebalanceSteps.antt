@@ -1,24 +1,21 @@
 -- Each step of a rebalance keeps what a run keeps.
-use Rattle.std.proofs.Common.{ℕ, ◌≡◌, ◌≢◌, ◌==◌, inl, inr, Bool, true, false, not, cond, List, [], ◌∷◌, map, Option, Some, None, refl, sym, ap, ◌∙◌, subst, arith, reverse}
+use Rattle.std.proofs.Common.{ℕ, ◌≡◌, ◌≢◌, ◌==◌, inl, inr, Bool, true, false, not, cond, List, [], ◌∷◌, map, Option, Some, None, refl, sym, ap, ◌∙◌, subst, arith, reverse, if◌then◌else◌}
 use Rattle.std.proofs.lemmas.Bool.{cases_eq}
 use Rattle.std.proofs.lemmas.Bool.Decides.{nat_tests}
 use Rattle.std.specs.Option.{option_map}
 use Rattle.resource_reqs.specs.Spelling.Answer.{assignment, no_fit, spent}
 use Rattle.pnp_model.specs.Keyed.{changed_first, those}
-use Rattle.pnp_model.specs.Records.{Node, Activity, Phase, State, Operation, Rebalance, RebalanceStage, Found}
-use Rattle.pnp_model.specs.Records.RebalanceStage.{Searching, Ending}
+use Rattle.pnp_model.specs.Records.{Node, Activity, Phase, State, Found, Course, Job, Stage, course_of}
 use Rattle.pnp_model.specs.Cores.{is_node, node_at, with_state, with_problem, serials_of}
 use Rattle.pnp_model.specs.Walks.{walk_of}
 use Rattle.pnp_model.specs.Tests.{has, is_started}
 use Rattle.pnp_model.specs.Trees.{stands_up}
 use Rattle.pnp_model.specs.Frames.{rest}
 use Rattle.resource_reqs.specs.Resources.{Reqs}
-use Rattle.pnp_model.specs.Rebalances.{RebalanceMove, ask_on, cancelled, cancel_on, has_refused, search_on, stop_on, startable, restart_from, restart_on, is_asked, begun_with, begun_rebalance, begun_change, is_not_above, searched, trouble_of, committed, kind_of, movers, plan_of, moved_on, over, result}
-use Rattle.pnp_model.specs.Machine.{rebalance_lifted}
-use Rattle.pnp_laws.specs.Kept.{Good, Lawful, Each, OperationFits, Distinct, Apart, Within, Waits, Changes, TargetFits, is_changing, RebalanceKeeps, asking_state, pending_state, stopping_state, stopped_state, Fits, is_calm, is_stopped}
+use Rattle.pnp_model.specs.Rebalances.{ask_on, cancelled, cancel_on, has_refused, stop_on, startable, restart_on, is_asked, begun_with, begun_rebalance, begun_change, is_not_above, searched, trouble_of, committed, movers, plan_of, over, result}
+use Rattle.pnp_laws.specs.Kept.{Good, Lawful, Each, OperationFits, Distinct, Apart, Within, Waits, Changes, TargetFits, is_changing, RebalanceKeeps, kind_by, asking_state, pending_state, stopping_state, stopped_state, Fits, is_calm, is_stopped}
 use Rattle.pnp_labels.specs.declared.states.DevState.{DevState}
 use Rattle.pnp_labels.specs.declared.words.Minor.{Minor}
-use Rattle.pnp_labels.specs.declared.label.Label.{Label}
 use Rattle.pnp_labels.specs.declared.states.Problem.{Problem}
 use Rattle.pnp_labels.specs.declared.states.DevState.TheVariants.{NotStarted, Started, StopPending, Stopped}
 use Rattle.pnp_laws.proofs.Lookups.{own_serial, found_self, node_changed_same, node_changed_other}
@@ -31,39 +28,44 @@ use Rattle.pnp_laws.proofs.OpSteps.{lawful_walked, lawful_still, lawful_close, t
 use Rattle.pnp_laws.proofs.Truths.{and_both}
 use Rattle.pnp_laws.proofs.FinishSteps.{at_work, lawful_ended}
 use Rattle.pnp_laws.proofs.RemovalSteps.{asked_apart}
-use Rattle.pnp_laws.proofs.Stages.{RebalanceStep}
+use Rattle.pnp_laws.proofs.Stages.{RebalanceAct, RebalanceStep}
+use Rattle.pnp_laws.proofs.FitsBy.{by_kind, fit}
+use Rattle.pnp_model.specs.Jobs.{Beside, JobMove, closes, each_gets, job_of, stands}
+use Rattle.pnp_model.specs.Machine.{job_lifted}
+use Rattle.pnp_labels.specs.declared.label.OpEnd.{OpEnd}
+use Rattle.pnp_labels.specs.declared.label.OpKind.{OpKind}
 
 -- What comes next keeps the facts ------------------------------------------------
 
-fits_cancelled : (r : Rebalance) (wanted : Option Reqs) (nodes : List Node) → r.wanted ≡ wanted → Distinct r.agreed → has r.agreed 0 ≡ false →
-    Each (λ k x. is_calm x) nodes → TargetFits r.wanted r.target nodes → OperationFits (Some (Operation.Rebalancing (record r { todo = []; stage = cancelled wanted }))) nodes
-fits_cancelled r None nodes e b d each waits = record { todo = tt; agreed = b; rootless = refl; no_root = d; asks = e; each = each; waits = waits }
-fits_cancelled r (Some wanted) nodes e b d each waits = record { todo = tt; agreed = b; rootless = refl; no_root = d; asks = tt; each = each; waits = waits }
+fits_cancelled : (r : Job) → r.kind ≡ kind_by r.wanted → (wanted : Option Reqs) (nodes : List Node) → r.wanted ≡ wanted → Distinct r.agreed → has r.agreed 0 ≡ false →
+    Each (λ k x. is_calm x) nodes → TargetFits r.wanted r.target nodes → OperationFits (Some (stands r [] (cancelled wanted))) nodes
+fits_cancelled r kind None nodes e b d each waits = fit Course.Rebalancing _ _ (by_kind r kind) (record { kind = kind; own = refl; todo = tt; agreed = b; rootless = refl; no_root = d; asks = e; each = each; waits = waits })
+fits_cancelled r kind (Some wanted) nodes e b d each waits = fit Course.Rebalancing _ _ (by_kind r kind) (record { kind = kind; own = refl; todo = tt; agreed = b; rootless = refl; no_root = d; asks = tt; each = each; waits = waits })
 
-fits_cancel_on : (r : Rebalance) (ks : List ℕ) (nodes : List Node) → Distinct ks → Distinct r.agreed → has ks 0 ≡ false → has r.agreed 0 ≡ false →
-    Each (pending_state ks) nodes → TargetFits r.wanted r.target nodes → OperationFits (Some (Operation.Rebalancing (cancel_on r ks))) nodes
-fits_cancel_on r [] nodes a b c d each waits = fits_cancelled r r.wanted nodes refl b d each waits
-fits_cancel_on r (k ∷ ks) nodes a b c d each waits = record { todo = a; agreed = b; rootless = c; no_root = d; asks = tt; each = each; waits = waits }
+fits_cancel_on : (r : Job) → r.kind ≡ kind_by r.wanted → (ks : List ℕ) (nodes : List Node) → Distinct ks → Distinct r.agreed → has ks 0 ≡ false → has r.agreed 0 ≡ false →
+    Each (pending_state ks) nodes → TargetFits r.wanted r.target nodes → OperationFits (Some (cancel_on r ks)) nodes
+fits_cancel_on r kind [] nodes a b c d each waits = fits_cancelled r kind r.wanted nodes refl b d each waits
+fits_cancel_on r kind (k ∷ ks) nodes a b c d each waits = fit Course.Rebalancing _ _ (by_kind r kind) (record { kind = kind; own = refl; todo = a; agreed = b; rootless = c; no_root = d; asks = tt; each = each; waits = waits })
 
-fits_search_on : (r : Rebalance) (refused : Bool) (nodes : List Node) → Distinct r.agreed → has r.agreed 0 ≡ false →
-    Each (pending_state r.agreed) nodes → TargetFits r.wanted r.target nodes → OperationFits (Some (Operation.Rebalancing (search_on r refused))) nodes
-fits_search_on r false nodes b d each waits = record { todo = tt; agreed = b; rootless = refl; no_root = d; asks = tt; each = each; waits = waits }
-fits_search_on r true nodes b d each waits = fits_cancel_on r r.agreed nodes b b d d each waits
+fits_search_on : (r : Job) → r.kind ≡ kind_by r.wanted → (refused : Bool) (nodes : List Node) → Distinct r.agreed → has r.agreed 0 ≡ false →
+    Each (pending_state r.agreed) nodes → TargetFits r.wanted r.target nodes → OperationFits (Some (if refused then cancel_on r r.agreed else stands r [] Stage.Searching)) nodes
+fits_search_on r kind false nodes b d each waits = fit Course.Rebalancing _ _ (by_kind r kind) (record { kind = kind; own = refl; todo = tt; agreed = b; rootless = refl; no_root = d; asks = tt; each = each; waits = waits })
+fits_search_on r kind true nodes b d each waits = fits_cancel_on r kind r.agreed nodes b b d d each waits
 
-fits_ask_on : (r : Rebalance) (ks : List ℕ) (nodes : List Node) → Distinct ks → Distinct r.agreed → has ks 0 ≡ false → has r.agreed 0 ≡ false → Apart ks r.agreed →
-    Each (asking_state ks r.agreed) nodes → TargetFits r.wanted r.target nodes → OperationFits (Some (Operation.Rebalancing (ask_on r ks))) nodes
-fits_ask_on r [] nodes a b c d e each waits = fits_search_on r (has_refused r) nodes b d each waits
-fits_ask_on r (k ∷ ks) nodes a b c d e each waits = record { todo = a; agreed = b; rootless = c; no_root = d; asks = e; each = each; waits = waits }
+fits_ask_on : (r : Job) → r.kind ≡ kind_by r.wanted → (ks : List ℕ) (nodes : List Node) → Distinct ks → Distinct r.agreed → has ks 0 ≡ false → has r.agreed 0 ≡ false → Apart ks r.agreed →
+    Each (asking_state ks r.agreed) nodes → TargetFits r.wanted r.target nodes → OperationFits (Some (ask_on r ks)) nodes
+fits_ask_on r kind [] nodes a b c d e each waits = fits_search_on r kind (has_refused r) nodes b d each waits
+fits_ask_on r kind (k ∷ ks) nodes a b c d e each waits = fit Course.Rebalancing _ _ (by_kind r kind) (record { kind = kind; own = refl; todo = a; agreed = b; rootless = c; no_root = d; asks = e; each = each; waits = waits })
 
-fits_stop_on : (r : Rebalance) (ks : List ℕ) (nodes : List Node) → Distinct ks → Distinct r.agreed → has ks 0 ≡ false → has r.agreed 0 ≡ false → Within ks r.agreed →
-    Each (stopping_state ks r.agreed) nodes → TargetFits r.wanted r.target nodes → OperationFits (Some (Operation.Rebalancing (stop_on r ks))) nodes
-fits_stop_on r [] nodes a b c d e each waits = record { todo = tt; agreed = b; rootless = refl; no_root = d; asks = tt; each = each; waits = waits }
-fits_stop_on r (k ∷ ks) nodes a b c d e each waits = record { todo = a; agreed = b; rootless = c; no_root = d; asks = e; each = each; waits = waits }
+fits_stop_on : (r : Job) → r.kind ≡ kind_by r.wanted → (ks : List ℕ) (nodes : List Node) → Distinct ks → Distinct r.agreed → has ks 0 ≡ false → has r.agreed 0 ≡ false → Within ks r.agreed →
+    Each (stopping_state ks r.agreed) nodes → TargetFits r.wanted r.target nodes → OperationFits (Some (stop_on r ks)) nodes
+fits_stop_on r kind [] nodes a b c d e each waits = fit Course.Rebalancing _ _ (by_kind r kind) (record { kind = kind; own = refl; todo = tt; agreed = b; rootless = refl; no_root = d; asks = tt; each = each; waits = waits })
+fits_stop_on r kind (k ∷ ks) nodes a b c d e each waits = fit Course.Rebalancing _ _ (by_kind r kind) (record { kind = kind; own = refl; todo = a; agreed = b; rootless = c; no_root = d; asks = e; each = each; waits = waits })
 
-fits_restart_from : (r : Rebalance) (ks : List ℕ) (nodes : List Node) → Distinct ks → Distinct r.agreed → has ks 0 ≡ false → has r.agreed 0 ≡ false →
-    Each (stopped_state ks) nodes → TargetFits r.wanted r.target nodes → OperationFits (Some (Operation.Rebalancing (restart_from r ks))) nodes
-fits_restart_from r [] nodes a b c d each waits = record { todo = tt; agreed = b; rootless = refl; no_root = d; asks = tt; each = each; waits = waits }
-fits_restart_from r (k ∷ ks) nodes a b c d each waits = record { todo = a; agreed = b; rootless = c; no_root = d; asks = tt; each = each; waits = waits }
+fits_restart_from : (r : Job) → r.kind ≡ kind_by r.wanted → (ks : List ℕ) (nodes : List Node) → Distinct ks → Distinct r.agreed → has ks 0 ≡ false → has r.agreed 0 ≡ false →
+    Each (stopped_state ks) nodes → TargetFits r.wanted r.target nodes → OperationFits (Some (each_gets Minor.Start Stage.Restarting r ks (stands r [] Stage.Ending))) nodes
+fits_restart_from r kind [] nodes a b c d each waits = fit Course.Rebalancing _ _ (by_kind r kind) (record { kind = kind; own = refl; todo = tt; agreed = b; rootless = refl; no_root = d; asks = tt; each = each; waits = waits })
+fits_restart_from r kind (k ∷ ks) nodes a b c d each waits = fit Course.Rebalancing _ _ (by_kind r kind) (record { kind = kind; own = refl; todo = a; agreed = b; rootless = c; no_root = d; asks = tt; each = each; waits = waits })
 
 -- those that can be restarted are among these
 pub startable_has : (nodes : List Node) (ks : List ℕ) (k : ℕ) → has ks k ≡ false → has (startable nodes ks) k ≡ false
@@ -86,10 +88,10 @@ fewer_stopped ks js k x within h =
     ] in
     by_two (has ks k) (has js k) within h
 
-fits_restart_on : (others : List Node) (r : Rebalance) (ks : List ℕ) (nodes : List Node) → Distinct ks → Distinct r.agreed → has ks 0 ≡ false → has r.agreed 0 ≡ false →
-    Each (stopped_state ks) nodes → TargetFits r.wanted r.target nodes → OperationFits (Some (Operation.Rebalancing (restart_on others r ks))) nodes
-fits_restart_on others r ks nodes a b c d each waits =
-    fits_restart_from r (startable others ks) nodes (startable_distinct others ks a) b (startable_has others ks 0 c) d
+fits_restart_on : (others : List Node) (r : Job) → r.kind ≡ kind_by r.wanted → (ks : List ℕ) (nodes : List Node) → Distinct ks → Distinct r.agreed → has ks 0 ≡ false → has r.agreed 0 ≡ false →
+    Each (stopped_state ks) nodes → TargetFits r.wanted r.target nodes → OperationFits (Some (restart_on others r ks)) nodes
+fits_restart_on others r kind ks nodes a b c d each waits =
+    fits_restart_from r kind (startable others ks) nodes (startable_distinct others ks a) b (startable_has others ks 0 c) d
     (Each_same (stopped_state ks) (stopped_state (startable others ks)) nodes
     (λ k x h. fewer_stopped (startable others ks) ks k x (startable_has others ks k) h) each) waits
 
@@ -180,13 +182,13 @@ rest_stopped todo k x e h = grind (arith)
 calm_stopped : (todo : List ℕ) (k : ℕ) (x : DevState) → has todo k ≡ false → is_calm x ≡ true → stopped_state todo k x ≡ true
 calm_stopped todo k x h g = grind (arith)
 
-lawful_then : (s t : State) (r : Rebalance) (phase : Phase) → t.next_serial ≡ s.next_serial → t.core.nodes ≡ s.core.nodes → t.activities ≡ entered (record { serial = r.target; phase = phase }) s.activities → t.operation ≡ None →
-    s.activities ≡ [] → Fits phase NotStarted → Waits r.target s.core.nodes → RebalanceKeeps r Ending s.core.nodes → Good s.next_serial s.core.nodes [] (Some (Operation.Rebalancing r)) → Lawful t
+lawful_then : (s t : State) (r : Job) (phase : Phase) → t.next_serial ≡ s.next_serial → t.core.nodes ≡ s.core.nodes → t.activities ≡ entered (record { serial = r.target; phase = phase }) s.activities → t.operation ≡ None →
+    s.activities ≡ [] → Fits phase NotStarted → Waits r.target s.core.nodes → RebalanceKeeps r Stage.Ending s.core.nodes → Good s.next_serial s.core.nodes [] (Some r) → Lawful t
 lawful_then s t r phase a b c d alone fit waits keeps good =
     let node = waits.0 in
     let x : Activity = record { serial = r.target; phase = phase } in
     lawful_by t s.next_serial s.core.nodes (x ∷ []) None a b (c ∙ ap (entered x) alone) d
-    (Good_nodes s.next_serial s.core.nodes [] (x ∷ []) (Some (Operation.Rebalancing r)) None (omega arith, tt)
+    (Good_nodes s.next_serial s.core.nodes [] (x ∷ []) (Some r) None (omega arith, tt)
     (λ k y g.
     let at = waits.1 in
     let e : r.target ≡ k = grind (arith, nat_tests) in
@@ -200,44 +202,44 @@ lawful_then s t r phase a b c d alone fit waits keeps good =
 
 -- The steps --------------------------------------------------------------------------
 
-module _ (s : State) (r : Rebalance) (alone : s.activities ≡ []) (good : Good s.next_serial s.core.nodes [] (Some (Operation.Rebalancing r))) where
-  re_searched : (found : Found) → RebalanceKeeps r Searching s.core.nodes → Lawful (rebalance_lifted s (searched s.core r found)).state
+module _ (s : State) (r : Job) (course : course_of r.kind ≡ Course.Rebalancing) (alone : s.activities ≡ []) (good : Good s.next_serial s.core.nodes [] (Some r)) where
+  re_searched : (found : Found) → RebalanceKeeps r Stage.Searching s.core.nodes → Lawful (job_lifted s (searched s.core r found)).state
   re_searched (assignment plan) keeps =
-      lawful_still s _ (Operation.Rebalancing r) _ refl refl alone refl
-      (fits_stop_on (record r { found = assignment plan }) (reverse r.agreed) s.core.nodes (Distinct-reverse r.agreed keeps.agreed) keeps.agreed
+      lawful_still s _ r _ refl refl alone refl
+      (fits_stop_on (record r { found = assignment plan }) keeps.kind (reverse r.agreed) s.core.nodes (Distinct-reverse r.agreed keeps.agreed) keeps.agreed
       (has-reverse r.agreed 0 ∙ keeps.no_root) keeps.no_root
       (λ k h. sym (has-reverse r.agreed k) ∙ h)
       (Each_same (pending_state r.agreed) (stopping_state (reverse r.agreed) r.agreed) s.core.nodes (λ k x h. turned_stopping r.agreed k x h) keeps.each)
       keeps.waits) good
   re_searched no_fit keeps =
-      lawful_still s _ (Operation.Rebalancing r) _ refl refl alone refl
-      (fits_cancel_on (record r { found = no_fit }) r.agreed s.core.nodes keeps.agreed keeps.agreed keeps.no_root keeps.no_root keeps.each keeps.waits) good
+      lawful_still s _ r _ refl refl alone refl
+      (fits_cancel_on (record r { found = no_fit }) keeps.kind r.agreed s.core.nodes keeps.agreed keeps.agreed keeps.no_root keeps.no_root keeps.each keeps.waits) good
   re_searched spent keeps =
-      lawful_still s _ (Operation.Rebalancing r) _ refl refl alone refl
-      (fits_cancel_on (record r { found = spent }) r.agreed s.core.nodes keeps.agreed keeps.agreed keeps.no_root keeps.no_root keeps.each keeps.waits) good
+      lawful_still s _ r _ refl refl alone refl
+      (fits_cancel_on (record r { found = spent }) keeps.kind r.agreed s.core.nodes keeps.agreed keeps.agreed keeps.no_root keeps.no_root keeps.each keeps.waits) good
 
-  re_moved : (up : Bool) (label : Label) → Waits r.target s.core.nodes → RebalanceKeeps r Ending s.core.nodes → Lawful (rebalance_lifted s (record { label = label; core = s.core; frame = r; beside = moved_on up })).state
-  re_moved true label waits keeps = lawful_then s _ r (Starting (walk_of Minor.Start)) refl refl refl refl alone refl waits keeps good
-  re_moved false label waits keeps = lawful_close s _ (Operation.Rebalancing r) refl refl alone refl keeps.each good
+  re_moved : (up : Bool) (result : OpEnd) → Waits r.target s.core.nodes → RebalanceKeeps r Stage.Ending s.core.nodes → Lawful (job_lifted s (closes s.core r result (if up then Beside.OverStart else Beside.Over))).state
+  re_moved true result waits keeps = lawful_then s _ r (Starting (walk_of Minor.Start)) refl refl refl refl alone refl waits keeps good
+  re_moved false result waits keeps = lawful_close s _ r refl refl alone refl keeps.each good
 
-  re_closes : (found : Found) (wanted : Option Reqs) (label : Label) → TargetFits wanted r.target s.core.nodes → RebalanceKeeps r Ending s.core.nodes
-      → Lawful (rebalance_lifted s (record { label = label; core = s.core; frame = r; beside = over s.core r found wanted })).state
-  re_closes (assignment plan) None label waits keeps = re_moved (stands_up s.core.nodes r.target) label waits keeps
-  re_closes no_fit None label waits keeps = lawful_then s _ r (Removing (walk_of Minor.Remove)) refl refl refl refl alone refl waits keeps good
-  re_closes spent None label waits keeps = lawful_then s _ r (Removing (walk_of Minor.Remove)) refl refl refl refl alone refl waits keeps good
-  re_closes (assignment plan) (Some wanted) label waits keeps = lawful_close s _ (Operation.Rebalancing r) refl refl alone refl keeps.each good
-  re_closes no_fit (Some wanted) label waits keeps = lawful_close s _ (Operation.Rebalancing r) refl refl alone refl keeps.each good
-  re_closes spent (Some wanted) label waits keeps = lawful_close s _ (Operation.Rebalancing r) refl refl alone refl keeps.each good
+  re_closes : (found : Found) (wanted : Option Reqs) (result : OpEnd) → TargetFits wanted r.target s.core.nodes → RebalanceKeeps r Stage.Ending s.core.nodes
+      → Lawful (job_lifted s (closes s.core r result (over s.core r found wanted))).state
+  re_closes (assignment plan) None result waits keeps = re_moved (stands_up s.core.nodes r.target) result waits keeps
+  re_closes no_fit None result waits keeps = lawful_then s _ r (Removing (walk_of Minor.Remove)) refl refl refl refl alone refl waits keeps good
+  re_closes spent None result waits keeps = lawful_then s _ r (Removing (walk_of Minor.Remove)) refl refl refl refl alone refl waits keeps good
+  re_closes (assignment plan) (Some wanted) result waits keeps = lawful_close s _ r refl refl alone refl keeps.each good
+  re_closes no_fit (Some wanted) result waits keeps = lawful_close s _ r refl refl alone refl keeps.each good
+  re_closes spent (Some wanted) result waits keeps = lawful_close s _ r refl refl alone refl keeps.each good
 
-  pub lawful_rebalance : (stage : RebalanceStage) (m : RebalanceMove) → RebalanceKeeps r stage s.core.nodes → RebalanceStep s.core r stage m → Lawful (rebalance_lifted s m).state
+  pub lawful_rebalance : (stage : Stage) (m : JobMove) → RebalanceKeeps r stage s.core.nodes → RebalanceStep s.core r stage m → Lawful (job_lifted s m).state
   lawful_rebalance stage m keeps (RebalanceStep.agrees node w e ok) =
-      let work = at_work s (Operation.Rebalancing r) node alone e.first good in
+      let work = at_work s r node alone e.first good in
       let here = head_has node.serial r.todo work.head in
       let state = head_started r.todo r.agreed node.serial node.state here (keeps.each node.serial node work.at) in
       let j = node.serial in
       let not_rest = rest_not j r.todo work.head keeps.todo in
-      lawful_ended s _ node (Operation.Rebalancing r) _ Started StopPending work state (rootless_head node.serial r.todo work.head keeps.rootless) refl refl refl refl (λ e. cc) (λ e. cc)
-      (λ stacks. fits_ask_on (record r { agreed = j ∷ r.agreed }) (rest r.todo) (changed_first (is_node j) (with_state StopPending) s.core.nodes)
+      lawful_ended s _ node r _ Started StopPending work state (rootless_head node.serial r.todo work.head keeps.rootless) refl refl refl refl (λ e. cc) (λ e. cc)
+      (λ stacks. fits_ask_on (record r { agreed = j ∷ r.agreed }) keeps.kind (rest r.todo) (changed_first (is_node j) (with_state StopPending) s.core.nodes)
       (rest_distinct r.todo keeps.todo)
       (keeps.asks j here, keeps.agreed)
       (rest_rootless r.todo keeps.rootless)
@@ -248,12 +250,14 @@ module _ (s : State) (r : Rebalance) (alone : s.activities ≡ []) (good : Good 
       (λ k x d h. asked_there r.todo (rest r.todo) r.agreed j k x d (rest_has j k r.todo work.head d) h) keeps.each)
       (target_changed r.wanted r.target j (with_state StopPending) s.core.nodes node (λ x. refl) work.at (λ e. let z = state in cc) refl keeps.waits))
   lawful_rebalance stage m keeps (RebalanceStep.refuses node w e bad) =
-      let work = at_work s (Operation.Rebalancing r) node alone e.first good in
+      let work = at_work s r node alone e.first good in
       let here = head_has node.serial r.todo work.head in
       let state = head_started r.todo r.agreed node.serial node.state here (keeps.each node.serial node work.at) in
       let j = node.serial in
-      lawful_ended s _ node (Operation.Rebalancing r) _ Started node.state work state (rootless_head node.serial r.todo work.head keeps.rootless) refl refl refl refl (λ e. cc) (λ e. let z = state in cc)
-      (λ stacks. record {
+      lawful_ended s _ node r _ Started node.state work state (rootless_head node.serial r.todo work.head keeps.rootless) refl refl refl refl (λ e. cc) (λ e. let z = state in cc)
+      (λ stacks. fit Course.Rebalancing _ _ course (record {
+        kind = keeps.kind;
+        own = refl;
         todo = keeps.todo;
         agreed = keeps.agreed;
         rootless = keeps.rootless;
@@ -263,17 +267,17 @@ module _ (s : State) (r : Rebalance) (alone : s.activities ≡ []) (good : Good 
             Each_changed (asking_state r.todo r.agreed) (asking_state r.todo r.agreed) j (with_state node.state) s.core.nodes node (λ x. refl) work.at
             (keeps.each j node work.at) (λ k x d h. h) keeps.each;
         waits = target_changed r.wanted r.target j (with_state node.state) s.core.nodes node (λ x. refl) work.at (λ e. let z = state in cc) (ap is_changing state) keeps.waits;
-      })
+      }))
   lawful_rebalance stage m keeps (RebalanceStep.takes_back node w e) =
-      let work = at_work s (Operation.Rebalancing r) node alone e.first good in
+      let work = at_work s r node alone e.first good in
       let here = head_has node.serial r.todo work.head in
       let state = head_started r.todo r.agreed node.serial node.state here (keeps.each node.serial node work.at) in
       let j = node.serial in
       let more = those (is_not_above s.core.nodes j) (rest r.todo) in
       let not_more = those_not (is_not_above s.core.nodes j) (rest r.todo) j (rest_not j r.todo work.head keeps.todo) in
       let within : (k : ℕ) → has more k ≡ true → has r.todo k ≡ true = λ k h. rest_within k r.todo (those_has (is_not_above s.core.nodes j) (rest r.todo) k h).0 in
-      lawful_ended s _ node (Operation.Rebalancing r) _ Started Started work state (rootless_head node.serial r.todo work.head keeps.rootless) refl refl refl refl (λ e. cc) (λ e. cc)
-      (λ stacks. fits_ask_on r more (changed_first (is_node j) (with_state Started) s.core.nodes)
+      lawful_ended s _ node r _ Started Started work state (rootless_head node.serial r.todo work.head keeps.rootless) refl refl refl refl (λ e. cc) (λ e. cc)
+      (λ stacks. fits_ask_on r keeps.kind more (changed_first (is_node j) (with_state Started) s.core.nodes)
       (those_distinct (is_not_above s.core.nodes j) (rest r.todo) (rest_distinct r.todo keeps.todo))
       keeps.agreed
       (those_not (is_not_above s.core.nodes j) (rest r.todo) 0 (rest_rootless r.todo keeps.rootless))
@@ -283,77 +287,81 @@ module _ (s : State) (r : Rebalance) (alone : s.activities ≡ []) (good : Good 
       (back_here r.todo r.agreed more j here not_more keeps.asks)
       (λ k x d h. fewer_asked r.todo more r.agreed k x (within k) (keeps.asks k) h) keeps.each)
       (target_changed r.wanted r.target j (with_state Started) s.core.nodes node (λ x. refl) work.at (λ e. let z = state in cc) refl keeps.waits))
-  lawful_rebalance stage m keeps (RebalanceStep.searches found budget answer) = re_searched found keeps
+  lawful_rebalance stage m keeps (RebalanceStep.acts _ _ (RebalanceAct.searches found budget answer)) = re_searched found keeps
   lawful_rebalance stage m keeps (RebalanceStep.cancels node w e) =
-      let work = at_work s (Operation.Rebalancing r) node alone e.first good in
+      let work = at_work s r node alone e.first good in
       let here = head_has node.serial r.todo work.head in
       let state = head_pending r.todo node.serial node.state here (keeps.each node.serial node work.at) in
       let j = node.serial in
-      lawful_ended s _ node (Operation.Rebalancing r) _ StopPending Started work state (rootless_head node.serial r.todo work.head keeps.rootless) refl refl refl refl (λ e. cc) (λ e. cc)
-      (λ stacks. fits_cancel_on r (rest r.todo) (changed_first (is_node j) (with_state Started) s.core.nodes)
+      lawful_ended s _ node r _ StopPending Started work state (rootless_head node.serial r.todo work.head keeps.rootless) refl refl refl refl (λ e. cc) (λ e. cc)
+      (λ stacks. fits_cancel_on r keeps.kind (rest r.todo) (changed_first (is_node j) (with_state Started) s.core.nodes)
       (rest_distinct r.todo keeps.todo) keeps.agreed (rest_rootless r.todo keeps.rootless) keeps.no_root
       (Each_changed (pending_state r.todo) (pending_state (rest r.todo)) j (with_state Started) s.core.nodes node (λ x. refl) work.at
       (calm_pending (rest r.todo) j (rest_not j r.todo work.head keeps.todo))
       (λ k x d h. rest_pending r.todo k x (rest_has j k r.todo work.head d) h) keeps.each)
       (target_changed r.wanted r.target j (with_state Started) s.core.nodes node (λ x. refl) work.at (λ e. let z = state in cc) refl keeps.waits))
-  lawful_rebalance stage m keeps RebalanceStep.sticks =
+  lawful_rebalance stage m keeps (RebalanceStep.acts _ _ RebalanceAct.sticks) =
       let there = target_there r.wanted r.target s.core.nodes keeps.waits in
       let node = there.0 in
       let own = own_serial r.target node s.core.nodes there.1 in
       let at = found_self r.target s.core.nodes node there.1 in
       let f = with_problem (Some (trouble_of r.found)) in
-      lawful_walked s _ f node (Operation.Rebalancing r) (Operation.Rebalancing (record r { stage = Ending })) refl
+      lawful_walked s _ f node r (stands r [] Stage.Ending) refl
       (ap (λ (i : ℕ). changed_first (is_node i) f s.core.nodes) (sym own)) alone refl (λ x. refl) at (good.stacks node.serial node at)
-      (record {
-        todo = keeps.todo;
+      (fit Course.Rebalancing _ _ course (record {
+        kind = keeps.kind;
+        own = refl;
+        todo = tt;
         agreed = keeps.agreed;
-        rootless = keeps.rootless;
+        rootless = refl;
         no_root = keeps.no_root;
         asks = tt;
         each = problem_each (λ k x. is_calm x) node.serial (Some (trouble_of r.found)) s.core.nodes node at keeps.each;
         waits = problem_target r.wanted r.target node.serial (Some (trouble_of r.found)) s.core.nodes keeps.waits;
-      })
+      }))
       good
   lawful_rebalance stage m keeps (RebalanceStep.stops node w e) =
-      let work = at_work s (Operation.Rebalancing r) node alone e.first good in
+      let work = at_work s r node alone e.first good in
       let here = head_has node.serial r.todo work.head in
       let state = head_stopping r.todo r.agreed node.serial node.state here (keeps.each node.serial node work.at) in
       let j = node.serial in
-      lawful_ended s _ node (Operation.Rebalancing r) _ StopPending Stopped work state (rootless_head node.serial r.todo work.head keeps.rootless) refl refl refl refl (λ e. cc) (λ e. cc)
-      (λ stacks. fits_stop_on r (rest r.todo) (changed_first (is_node j) (with_state Stopped) s.core.nodes)
+      lawful_ended s _ node r _ StopPending Stopped work state (rootless_head node.serial r.todo work.head keeps.rootless) refl refl refl refl (λ e. cc) (λ e. cc)
+      (λ stacks. fits_stop_on r keeps.kind (rest r.todo) (changed_first (is_node j) (with_state Stopped) s.core.nodes)
       (rest_distinct r.todo keeps.todo) keeps.agreed (rest_rootless r.todo keeps.rootless) keeps.no_root
       (λ k h. keeps.asks k (rest_within k r.todo h))
       (Each_changed (stopping_state r.todo r.agreed) (stopping_state (rest r.todo) r.agreed) j (with_state Stopped) s.core.nodes node (λ x. refl) work.at
       (stop_here (rest r.todo) r.agreed j (rest_not j r.todo work.head keeps.todo) (keeps.asks j here))
       (λ k x d h. rest_stopping r.todo r.agreed k x (rest_has j k r.todo work.head d) h) keeps.each)
       (target_changed r.wanted r.target j (with_state Stopped) s.core.nodes node (λ x. refl) work.at (λ e. let z = state in cc) refl keeps.waits))
-  lawful_rebalance stage m keeps RebalanceStep.commits =
+  lawful_rebalance stage m keeps (RebalanceStep.acts _ _ RebalanceAct.commits) =
       let f = committed r.wanted r.target (movers r) (plan_of r.found) in
-      let fits = fits_restart_on s.core.nodes r r.agreed (map f s.core.nodes) keeps.agreed keeps.agreed keeps.no_root keeps.no_root
+      let fits = fits_restart_on s.core.nodes r keeps.kind r.agreed (map f s.core.nodes) keeps.agreed keeps.agreed keeps.no_root keeps.no_root
       (Each_mapped (stopped_state r.agreed) (stopped_state r.agreed) f s.core.nodes (λ x. refl) (λ x. refl) (λ k x h. h) keeps.each)
       (target_mapped r.wanted r.target f s.core.nodes (λ x. refl) (λ x. refl) keeps.waits) in
-      lawful_by _ s.next_serial (map f s.core.nodes) [] (Some (Operation.Rebalancing (restart_on s.core.nodes r r.agreed))) refl refl alone refl
-      (Good_mapped s.next_serial f s.core.nodes (Some (Operation.Rebalancing r)) (Some (Operation.Rebalancing (restart_on s.core.nodes r r.agreed))) (λ x. refl) (λ x. refl) (λ x. refl) fits refl good)
+      lawful_by _ s.next_serial (map f s.core.nodes) [] (Some (restart_on s.core.nodes r r.agreed)) refl refl alone refl
+      (Good_mapped s.next_serial f s.core.nodes (Some r) (Some (restart_on s.core.nodes r r.agreed)) (λ x. refl) (λ x. refl) (λ x. refl) fits refl good)
   lawful_rebalance stage m keeps (RebalanceStep.restarts node w e ok) =
-      let work = at_work s (Operation.Rebalancing r) node alone e.first good in
+      let work = at_work s r node alone e.first good in
       let here = head_has node.serial r.todo work.head in
       let state = head_stopped r.todo node.serial node.state here (keeps.each node.serial node work.at) in
       let j = node.serial in
       let nodes = changed_first (is_node j) (with_state Started) s.core.nodes in
-      lawful_ended s _ node (Operation.Rebalancing r) _ Stopped Started work state (rootless_head node.serial r.todo work.head keeps.rootless) refl refl refl refl (λ e. cc) (λ e. cc)
-      (λ stacks. fits_restart_on nodes r (rest r.todo) nodes
+      lawful_ended s _ node r _ Stopped Started work state (rootless_head node.serial r.todo work.head keeps.rootless) refl refl refl refl (λ e. cc) (λ e. cc)
+      (λ stacks. fits_restart_on nodes r keeps.kind (rest r.todo) nodes
       (rest_distinct r.todo keeps.todo) keeps.agreed (rest_rootless r.todo keeps.rootless) keeps.no_root
       (Each_changed (stopped_state r.todo) (stopped_state (rest r.todo)) j (with_state Started) s.core.nodes node (λ x. refl) work.at
       (calm_stopped (rest r.todo) j Started (rest_not j r.todo work.head keeps.todo) refl)
       (λ k x d h. rest_stopped r.todo k x (rest_has j k r.todo work.head d) h) keeps.each)
       (target_changed r.wanted r.target j (with_state Started) s.core.nodes node (λ x. refl) work.at (λ e. let z = state in cc) refl keeps.waits))
   lawful_rebalance stage m keeps (RebalanceStep.fails node w e bad) =
-      let work = at_work s (Operation.Rebalancing r) node alone e.first good in
+      let work = at_work s r node alone e.first good in
       let here = head_has node.serial r.todo work.head in
       let state = head_stopped r.todo node.serial node.state here (keeps.each node.serial node work.at) in
       let j = node.serial in
-      lawful_ended s _ node (Operation.Rebalancing r) _ Stopped node.state work state (rootless_head node.serial r.todo work.head keeps.rootless) refl refl refl refl (λ e. cc) (λ e. let z = state in cc)
-      (λ stacks. record {
+      lawful_ended s _ node r _ Stopped node.state work state (rootless_head node.serial r.todo work.head keeps.rootless) refl refl refl refl (λ e. cc) (λ e. let z = state in cc)
+      (λ stacks. fit Course.Rebalancing _ _ course (record {
+        kind = keeps.kind;
+        own = refl;
         todo = keeps.todo;
         agreed = keeps.agreed;
         rootless = keeps.rootless;
@@ -363,23 +371,23 @@ module _ (s : State) (r : Rebalance) (alone : s.activities ≡ []) (good : Good 
             Each_changed (stopped_state r.todo) (stopped_state r.todo) j (with_state node.state) s.core.nodes node (λ x. refl) work.at
             (keeps.each j node work.at) (λ k x d h. h) keeps.each;
         waits = target_changed r.wanted r.target j (with_state node.state) s.core.nodes node (λ x. refl) work.at (λ e. let z = state in cc) (ap is_changing state) keeps.waits;
-      })
-  lawful_rebalance stage m keeps (RebalanceStep.failed node first) =
-      let work = at_work s (Operation.Rebalancing r) node alone first good in
+      }))
+  lawful_rebalance stage m keeps (RebalanceStep.acts _ _ (RebalanceAct.failed node first)) =
+      let work = at_work s r node alone first good in
       let here = head_has node.serial r.todo work.head in
       let state = head_stopped r.todo node.serial node.state here (keeps.each node.serial node work.at) in
       let j = node.serial in
       let nodes = changed_first (is_node j) (with_problem (Some Problem.FailedStart)) s.core.nodes in
-      lawful_walked s _ (with_problem (Some Problem.FailedStart)) node (Operation.Rebalancing r) _ refl
+      lawful_walked s _ (with_problem (Some Problem.FailedStart)) node r _ refl
       refl work.alone refl (λ x. refl) work.at (work.good.stacks j node work.at)
-      (fits_restart_on s.core.nodes r (rest r.todo) nodes
+      (fits_restart_on s.core.nodes r keeps.kind (rest r.todo) nodes
       (rest_distinct r.todo keeps.todo) keeps.agreed (rest_rootless r.todo keeps.rootless) keeps.no_root
       (Each_changed (stopped_state r.todo) (stopped_state (rest r.todo)) j (with_problem (Some Problem.FailedStart)) s.core.nodes node (λ x. refl) work.at
       (calm_stopped (rest r.todo) j node.state (rest_not j r.todo work.head keeps.todo) (ap is_calm state))
       (λ k x d h. rest_stopped r.todo k x (rest_has j k r.todo work.head d) h) keeps.each)
       (problem_target r.wanted r.target j (Some Problem.FailedStart) s.core.nodes keeps.waits))
       work.good
-  lawful_rebalance stage m keeps RebalanceStep.closes = re_closes r.found r.wanted (Label.End (kind_of r.wanted) r.path (result r.found (has_refused r))) keeps.waits keeps
+  lawful_rebalance stage m keeps (RebalanceStep.acts _ _ RebalanceAct.closes) = re_closes r.found r.wanted (result r.found (has_refused r)) keeps.waits keeps
 
 -- The begin ---------------------------------------------------------------------------
 
@@ -398,13 +406,13 @@ begun_each nodes ks up each k n at =
     ] in
     by_test (has ks k) refl
 
-fits_begun : (s : State) (node : Node) (wanted : Option Reqs) → TargetFits wanted node.serial s.core.nodes → Good s.next_serial s.core.nodes s.activities None →
-    OperationFits (Some (Operation.Rebalancing (begun_with s.core node wanted))) s.core.nodes
-fits_begun s node wanted target good =
+fits_begun : (s : State) (kind : OpKind) (node : Node) (wanted : Option Reqs) → kind ≡ kind_by wanted → TargetFits wanted node.serial s.core.nodes → Good s.next_serial s.core.nodes s.activities None →
+    OperationFits (Some (begun_with s.core kind node wanted)) s.core.nodes
+fits_begun s kind node wanted is target good =
     let ks = serials_of (those is_asked s.core.nodes) in
     let found : (k : ℕ) → has (reverse ks) k ≡ true → (n : Node) × (node_at k s.core.nodes ≡ Some n) × (is_asked n ≡ true) =
     λ k h. those_found 0 is_asked s.core.nodes k good.serials (sym (has-reverse ks k) ∙ h) in
-    fits_ask_on (record { target = node.serial; path = node.path; wanted = wanted; todo = []; agreed = []; refused = []; found = no_fit; stage = Searching }) (reverse ks) s.core.nodes
+    fits_ask_on (record (job_of kind node) { wanted = wanted }) is (reverse ks) s.core.nodes
     (Distinct-reverse ks (serials_distinct 0 is_asked s.core.nodes good.serials)) tt
     (let by_test : (b : Bool) → has (reverse ks) 0 ≡ b → b ≡ false =
     λ b. elim b as (λ b. has (reverse ks) 0 ≡ b → b ≡ false) [
@@ -421,9 +429,9 @@ fits_begun s node wanted target good =
     target
 
 pub fits_begun_rebalance : (s : State) (node : Node) → node_at node.serial s.core.nodes ≡ Some node → node.state ≡ NotStarted → Good s.next_serial s.core.nodes s.activities None →
-    OperationFits (Some (Operation.Rebalancing (begun_rebalance s.core node))) s.core.nodes
-fits_begun_rebalance s node at e good = fits_begun s node None (node, at, e) good
+    OperationFits (Some (begun_rebalance s.core node)) s.core.nodes
+fits_begun_rebalance s node at e good = fits_begun s OpKind.Rebalance node None refl (node, at, e) good
 
 pub fits_begun_change : (s : State) (node : Node) (wanted : Reqs) → node_at node.serial s.core.nodes ≡ Some node → node.state ≡ Started → node.serial ≢ 0 → Good s.next_serial s.core.nodes s.activities None →
-    OperationFits (Some (Operation.Rebalancing (begun_change s.core node wanted))) s.core.nodes
-fits_begun_change s node wanted at e up good = fits_begun s node (Some wanted) (node, at, ap is_changing e, up) good
+    OperationFits (Some (begun_change s.core node wanted)) s.core.nodes
+fits_begun_change s node wanted at e up good = fits_begun s OpKind.Change node (Some wanted) refl (node, at, ap is_changing e, up) good

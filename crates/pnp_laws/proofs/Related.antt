@@ -125,7 +125,7 @@ effect_up s label t (NodeEffect.changed j f alters a b) order follows h =
     (all_up s.core.nodes _ (changed_up j f s.core.nodes (alters_keeps s label t j f alters) (alters_up s label t j f alters)) s.core.relations h)
 effect_up s label t (NodeEffect.stripped node w at request ends prints a b) order follows h =
     from_parts t.core (changed_first (is_node node.serial) bare s.core.nodes) (forget node.serial s.core.relations) a b (others_up s.core.nodes _ node.serial (bare_up node.serial s.core.nodes) s.core.relations h)
-effect_up s label t (NodeEffect.commits r runs is a b) order follows h =
+effect_up s label t (NodeEffect.commits r runs course is a b) order follows h =
     from_parts t.core (map (committed r.wanted r.target (movers r) (plan_of r.found)) s.core.nodes) s.core.relations a b
     (all_up s.core.nodes _ (mapped_up (committed r.wanted r.target (movers r) (plan_of r.found)) (λ n. refl) (λ n. refl) s.core.nodes) s.core.relations h)
 effect_up s label t (NodeEffect.joins node d none at up there is) order follows h =

@@ -48,7 +48,7 @@ by_origin s label t k _ (Origin.troubled n problem at) = From.was n at refl refl
 by_origin s label t k _ (Origin.stacks n d ds name at acts prints) = From.was n at refl refl
 by_origin s label t k _ (Origin.assigned n phase plan at acts search part now) = From.was n at refl refl
 by_origin s label t k _ (Origin.stripped n w at request prints) = From.was n at refl refl
-by_origin s label t k _ (Origin.commits r n runs is at) = From.was n at refl refl
+by_origin s label t k _ (Origin.commits r n runs course is at) = From.was n at refl refl
 by_origin s label t k _ (Origin.joins node d below gone own) = From.joined node d gone own refl
 
 -- Births ------------------------------------------------------------------------------------------

@@ -1,6 +1,6 @@
 -- In each run an operation that ends, or prints problem 12, began before and has not ended since.
 use Rattle.std.proofs.Common.{◌≡◌, inl, inr, List, [], ◌∷◌, ◌++◌, Some, refl, sym, ap, ◌∙◌, subst, append_assoc, append-nil}
-use Rattle.pnp_model.specs.Records.{Driver, State, Step, Settings, Operation}
+use Rattle.pnp_model.specs.Records.{Driver, State, Step, Settings, Job}
 use Rattle.pnp_model.specs.Runs.{Entry, Goes, Run, printed, opening}
 use Rattle.pnp_model.specs.Runs.Entry.{Happens, Did, Declines}
 use Rattle.pnp_model.specs.Laws.{Reaches, IsWithin, AllWithin}
@@ -8,7 +8,7 @@ use Rattle.pnp_labels.specs.Texts.{Text}
 use Rattle.pnp_labels.specs.declared.states.Problem.{Problem}
 use Rattle.pnp_labels.specs.declared.label.Label.{Label}
 use Rattle.pnp_labels.specs.declared.label.OpKind.{OpKind}
-use Rattle.pnp_laws.specs.Words.{IsWord, kind_of, path_of, NotTwelve, IsBeside}
+use Rattle.pnp_laws.specs.Words.{IsWord, NotTwelve, IsBeside}
 use Rattle.pnp_laws.specs.Begun.{HasBegun, Belongs, BegunLaw}
 use Rattle.pnp_laws.proofs.Reaching.{run_on}
 use Rattle.pnp_laws.specs.Effects.{SameWork, begun}
@@ -19,7 +19,7 @@ use Rattle.pnp_laws.proofs.BeginSteps.{reached_fine}
 
 -- the operation that runs has begun
 abbrev RunsBegun : Settings → List Driver → List Entry → State → Type 0
-RunsBegun settings rack entries s = (o : Operation) → s.operation ≡ Some o → HasBegun settings rack entries s (kind_of o) (path_of o)
+RunsBegun settings rack entries s = (o : Job) → s.operation ≡ Some o → HasBegun settings rack entries s o.kind o.path
 
 -- Labels -----------------------------------------------------------------------------------
 
@@ -86,12 +86,12 @@ same_begun settings rack entries s kind own path named e q h =
     subst (λ (x : Text). HasBegun settings rack entries s own x) (sym q) (subst (λ (x : OpKind). HasBegun settings rack entries s x path) (sym e) h)
 
 -- an operation goes on
-work_on : (settings : Settings) (rack : List Driver) (entries : List Entry) (s : State) (entry : Entry) (t : State) (p q o : Operation) → s.operation ≡ Some p → t.operation ≡ Some q → t.operation ≡ Some o → SameWork p q → IsWithin (printed entry) → Goes settings s entry t →
-    RunsBegun settings rack entries s → HasBegun settings rack (entries ++ entry ∷ []) t (kind_of o) (path_of o)
+work_on : (settings : Settings) (rack : List Driver) (entries : List Entry) (s : State) (entry : Entry) (t : State) (p q o : Job) → s.operation ≡ Some p → t.operation ≡ Some q → t.operation ≡ Some o → SameWork p q → IsWithin (printed entry) → Goes settings s entry t →
+    RunsBegun settings rack entries s → HasBegun settings rack (entries ++ entry ∷ []) t o.kind o.path
 work_on settings rack entries s entry t p q o runs after now work within goes h =
     let same : o ≡ q = cc in
-    let begun = begun_on settings rack entries s entry t (kind_of p) (path_of p) within goes (h p runs) in
-    same_begun settings rack (entries ++ entry ∷ []) t (kind_of p) (kind_of o) (path_of p) (path_of o) (ap kind_of same ∙ work.kind) (ap path_of same ∙ work.path) begun
+    let begun = begun_on settings rack entries s entry t p.kind p.path within goes (h p runs) in
+    same_begun settings rack (entries ++ entry ∷ []) t p.kind o.kind p.path o.path (ap (λ (x : Job). x.kind) same ∙ work.kind) (ap (λ (x : Job). x.path) same ∙ work.path) begun
 
 goes_on : (settings : Settings) (rack : List Driver) (entries : List Entry) (s : State) (entry : Entry) (t : State) → Reaches settings rack entries s → Goes settings s entry t → Way s (record { label = printed entry; state = t }) → RunsBegun settings rack entries s → RunsBegun settings rack (entries ++ entry ∷ []) t
 goes_on settings rack entries s entry t reaches goes (Way.idles none after beside) h o now = absurd (cc)
@@ -101,7 +101,7 @@ goes_on settings rack entries s entry t reaches goes (Way.begins kind node none 
     let same : o ≡ first = cc in
     let work = begun_work s kind node in
     let did = begin_did settings s entry t kind node.path goes (ap (λ (x : Step). x.label) is) in
-    same_begun settings rack (entries ++ entry ∷ []) t kind (kind_of o) node.path (path_of o) (ap kind_of same ∙ work.0) (ap path_of same ∙ work.1)
+    same_begun settings rack (entries ++ entry ∷ []) t kind o.kind node.path o.path (ap (λ (x : Job). x.kind) same ∙ work.0) (ap (λ (x : Job). x.path) same ∙ work.1)
     (begun_now settings rack entries s entry t kind node.path did reaches goes)
 goes_on settings rack entries s entry t reaches goes (Way.goes p q runs after work (inl beside)) h o now =
     work_on settings rack entries s entry t p q o runs after now work (beside_within (printed entry) beside) goes h
@@ -131,7 +131,7 @@ belongs_way settings rack entries s label t (Way.begins kind node none at is) h 
     subst (λ (x : Label). Belongs settings rack entries s x) (sym (ap (λ (x : Step). x.label) is)) tt
 belongs_way settings rack entries s label t (Way.goes o p runs after work (inl beside)) h = beside_belongs settings rack entries s label beside
 belongs_way settings rack entries s label t (Way.goes o p runs after work (inr (kinds, is))) h =
-    subst (λ (x : Label). Belongs settings rack entries s x) (sym is) (subst (λ (x : OpKind). HasBegun settings rack entries s x (path_of o)) kinds (h o runs))
+    subst (λ (x : Label). Belongs settings rack entries s x) (sym is) (subst (λ (x : OpKind). HasBegun settings rack entries s x o.path) kinds (h o runs))
 belongs_way settings rack entries s label t (Way.ends o result runs after is by) h = subst (λ (x : Label). Belongs settings rack entries s x) (sym is) (h o runs)
 
 -- where an operation ends or prints problem 12, it began before and has not ended since

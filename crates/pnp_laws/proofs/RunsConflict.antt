@@ -4,8 +4,7 @@ use Rattle.std.proofs.lemmas.Bool.Decides.{nat_tests}
 use Rattle.resource_reqs.specs.Resources.{Res, Reqs, Fits}
 use Rattle.resource_reqs.specs.Spelling.Answer.{assignment, no_fit, spent}
 use Rattle.pnp_model.specs.Keyed.{those}
-use Rattle.pnp_model.specs.Records.{Node, Core, Driver, State, Step, Settings, Rebalance, RebalanceStage, Found}
-use Rattle.pnp_model.specs.Records.RebalanceStage.{Asking, Stuck}
+use Rattle.pnp_model.specs.Records.{Node, Core, Driver, State, Step, Settings, Found, Job, Stage}
 use Rattle.pnp_model.specs.Cores.{node_at}
 use Rattle.pnp_model.specs.Tests.{has, is_started}
 use Rattle.pnp_model.specs.Trees.{above}
@@ -27,7 +26,7 @@ use Rattle.pnp_laws.proofs.Lookups.{own_serial}
 use Rattle.pnp_laws.proofs.Standing.{Tree}
 use Rattle.pnp_laws.proofs.Reached.{reached_is_good, reached_tree}
 use Rattle.pnp_laws.proofs.RebalanceMoves.{NoConflict}
-use Rattle.pnp_laws.proofs.RebalanceRuns.{Stepped, IsOver, rebalance_stepped, lasts}
+use Rattle.pnp_laws.proofs.RebalanceRuns.{Stepped, IsOver, rebalance_stepped, refusing, lasts}
 use Rattle.pnp_laws.specs.Begun.{HasBegun, Belongs, EachConflictLaw}
 use Rattle.pnp_laws.proofs.BeginSteps.{step_did}
 use Rattle.pnp_laws.proofs.RunsBegun.{operations_begin}
@@ -39,12 +38,12 @@ use Rattle.pnp_laws.proofs.RebalanceSteps.{asked_up}
 -- The step that prints problem 12 -----------------------------------------------------------
 
 -- it is the one of a stuck rebalance that found no fit
-pub record IsStuck (path : Text) (r : Rebalance) : Type 0 where
-  pub stage : r.stage ≡ Stuck
+pub record IsStuck (path : Text) (r : Job) : Type 0 where
+  pub stage : r.stage ≡ Stage.Stuck
   pub device : path ≡ r.path
   pub trouble : Problem.NormalConflict ≡ trouble_of r.found
 
-stuck_move : (s : State) (r : Rebalance) (path : Text) (t : State) (label : Label) → label ≡ Label.Trouble path Problem.NormalConflict → (NoConflict label ⊎ ((r.stage ≡ Stuck) × (label ≡ Label.Trouble r.path (trouble_of r.found)))) → IsStuck path r
+stuck_move : (s : State) (r : Job) (path : Text) (t : State) (label : Label) → label ≡ Label.Trouble path Problem.NormalConflict → (NoConflict label ⊎ ((r.stage ≡ Stage.Stuck) × (label ≡ Label.Trouble r.path (trouble_of r.found)))) → IsStuck path r
 stuck_move s r path t label e (inl none) = absurd (subst (λ (x : Label). NoConflict x) e none)
 stuck_move s r path t label e (inr (stage, is)) =
     let both : Label.Trouble path Problem.NormalConflict ≡ Label.Trouble r.path (trouble_of r.found) = sym e ∙ is in
@@ -76,7 +75,7 @@ within_split (x ∷ xs) ys h = let more = within_split xs ys h.1 in ((h.0, more.
 
 -- a stuck rebalance, at the end of a run from its begin on
 record AtStuck (settings : Settings) (rack : List Driver) (path : Text) (before begun : State) (entries : List Entry) (last : State) (u : Underway path before.core last) : Type 0 where
-  stage : u.frame.stage ≡ Stuck
+  stage : u.frame.stage ≡ Stage.Stuck
   nodes : last.core.nodes ≡ before.core.nodes
   reserved : last.core.reserved ≡ before.core.reserved
   asks : Asks before.core.nodes [] u.frame.agreed u.frame.refused
@@ -151,7 +150,7 @@ nothing_fits_still c d ms a b none fits =
 
 -- whoever refused since the begin is told at the end
 refusers_told : (settings : Settings) (rack : List Driver) (path : Text) (before begun : State) (entries : List Entry) (last : State) → Tree before.next_serial before.core → Since OpKind.Rebalance settings rack path before begun entries last → AllWithin entries →
-    (u : Underway path before.core last) → u.frame.stage ≡ Stuck → (k : ℕ) → RefusedSince settings begun entries last k → has u.frame.refused k ≡ true
+    (u : Underway path before.core last) → u.frame.stage ≡ Stage.Stuck → (k : ℕ) → RefusedSince settings begun entries last k → has u.frame.refused k ≡ true
 refusers_told settings rack path before begun entries last tree since within u stage k (s, (xs, ys, e, run, more), refuses) =
     let split = within_split xs ys (subst (λ (l : List Entry). AllWithin l) e within) in
     let there = lasts settings rack path before.next_serial before.core tree begun xs s since.reached since.first split.0 run in
@@ -160,13 +159,13 @@ refusers_told settings rack path before begun entries last tree since within u s
     let same : on.under.frame ≡ u.frame = (let a = on.under.runs in let b = u.runs in cc) in
     elim (on.tells k refuses) [
       | inl now ↦ absurd (asks_now now)
-      | inr told ↦ subst (λ (x : Rebalance). has x.refused k ≡ true) same told
+      | inr told ↦ subst (λ (x : Job). has x.refused k ≡ true) same told
     ]
   where
     asks_now : Refuses last k → ⊥
-    asks_now (f, w, node, runs, asking, first, own, bad) =
-        let same : f ≡ u.frame = (let b = u.runs in cc) in
-        let asks : u.frame.stage ≡ Asking w = subst (λ (x : Rebalance). x.stage ≡ Asking w) same asking in
+    asks_now now =
+        let good = reached_is_good settings rack last (reached_after settings rack s ys last (reached_after settings rack begun xs s since.reached run) more) in
+        let asking = (refusing last u.frame k good u.runs u.course now).2 in
         cc
 
 -- a state in which a rebalance prints problem 12
@@ -187,8 +186,8 @@ at_conflict settings rack earlier entries before begun last after begin_path pat
     let u = since.lasts.under in
     let r = u.frame in
     let is_stuck = stuck_step path begin_path before.core settings last after u (rebalance_stepped begin_path before.next_serial before.core settings last (record { label = Label.Trouble path Problem.NormalConflict; state = after }) u tree good ends) in
-    let undone : Undone before.core last.core r Stuck = subst (λ (x : RebalanceStage). Undone before.core last.core r x) is_stuck.stage u.undone in
-    let asked : AskedSince before.core r Stuck = subst (λ (x : RebalanceStage). AskedSince before.core r x) is_stuck.stage u.asked in
+    let undone : Undone before.core last.core r Stage.Stuck = subst (λ (x : Stage). Undone before.core last.core r x) is_stuck.stage u.undone in
+    let asked : AskedSince before.core r Stage.Stuck = subst (λ (x : Stage). AskedSince before.core r x) is_stuck.stage u.asked in
     let found = no_fit_found r.found undone.1 is_stuck.trouble in
     record {
       under = u;
@@ -276,6 +275,7 @@ each_conflict_is_listed settings rack entries s entry t path reaches goes e =
     record {
       frame = u.frame;
       runs = u.runs;
+      course = u.course;
       plain = c.plain;
       node = u.target.0;
       there = subst (λ (x : List Node). node_at u.frame.target x ≡ Some u.target.0) (sym c.stuck.nodes) u.target.1;

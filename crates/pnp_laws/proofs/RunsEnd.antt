@@ -1,7 +1,7 @@
 -- Each step of a run lowers the numbers, so a machine that is left alone comes to rest.
 use Rattle.std.proofs.Common.{ℕ, zero, suc, ◌+◌, ◌*◌, ◌<◌, ◌≤◌, ◌≡◌, ◌⊎◌, inl, inr, List, [], ◌∷◌, length, Option, Some, None, true, refl, sym, subst, arith}
 use native.Mathlib.Decide.{dec_lt}
-use Rattle.pnp_model.specs.Records.{Node, State, Step, Settings, Operation, Surprise, SurpriseStage, Finish, FinishStage, Doing}
+use Rattle.pnp_model.specs.Records.{Node, State, Step, Settings, Doing, Job, Stage, Course, course_of}
 use Rattle.pnp_model.specs.Cores.{node_at}
 use Rattle.pnp_model.specs.States.{set_operation}
 use Rattle.pnp_model.specs.Runs.{Entry, Run}
@@ -16,17 +16,17 @@ use Rattle.pnp_laws.specs.Words.{IsNoJoin}
 use Rattle.pnp_laws.proofs.FinishingSteps.{head_taken}
 use Rattle.pnp_laws.proofs.IdleSteps.{MachineStep, TaskStep, machine_step}
 use Rattle.pnp_laws.proofs.Lists.{head_found}
-use Rattle.pnp_laws.proofs.Stages.{TakenStep}
+use Rattle.pnp_laws.proofs.Stages.{TakenStep, own_step}
 use Rattle.pnp_laws.proofs.Turns.{running_good}
 use Rattle.pnp_laws.proofs.TurnsKept.{running_stage, running_told}
 use Rattle.pnp_laws.proofs.Weights.{IsNoAdd, Lighter, lighter_follows}
-use Rattle.pnp_laws.proofs.Standing.{SurpriseThere, SurpriseTold}
+use Rattle.pnp_laws.proofs.Standing.{SurpriseThere, SurpriseTold, kept_by, told_by}
 use Rattle.pnp_laws.proofs.Measures.{Falls, coarse, rank_of, left_of, answers_of}
 use Rattle.pnp_laws.specs.Ends.{AllSteps, Settles, SettlesLaw}
 use Rattle.pnp_laws.proofs.RunsStep.{rests_or, nothing_next, doing_one}
 use Rattle.pnp_model.proofs.Determined.{one_state}
 use Rattle.pnp_laws.proofs.MeasureOps.{Lowers, TargetOver, falls_turned}
-use Rattle.pnp_laws.proofs.MeasureStages.{EndsOver, Ready, TakesTold, falls_operation}
+use Rattle.pnp_laws.proofs.MeasureStages.{EndsOver, Ready, ReadyIn, TakesTold, falls_operation}
 use Rattle.pnp_laws.proofs.MeasureTasks.{falls_act}
 use Rattle.pnp_laws.proofs.MeasureBegins.{lowers_task}
 use Rattle.pnp_laws.proofs.RunsStand.{Kept, kept_goes, reaches_kept}
@@ -35,6 +35,7 @@ use Rattle.pnp_laws.proofs.Joins.{Born}
 use Rattle.pnp_laws.proofs.JoinMachine.{knows_step, step_goes, reaches_born}
 use Rattle.pnp_laws.proofs.JoinSteps.{Knows}
 use Rattle.pnp_model.specs.Machine as ma
+use Rattle.pnp_laws.proofs.FitsBy.{fits_by}
 
 -- Each step but a join ---------------------------------------------------------------------------------
 
@@ -43,9 +44,9 @@ lighter_step : (s : State) (step : Step) → Knows s step → IsNoJoin step.labe
 lighter_step s step knows no_join none = lighter_follows step.label s.core.nodes step.state.core.nodes none (knows.sound.births no_join) knows.diagram
 
 -- at the end of a surprise its target has left, or was told that it has gone
-target_over : (s : State) (o : Surprise) (stage : SurpriseStage) → SurpriseThere o stage s.core.nodes → SurpriseTold s.core o stage → EndsOver s o stage
-target_over s o SurpriseStage.Ending (inl gone) told = inr (inl gone)
-target_over s o SurpriseStage.Ending (inr behind) told = by_node (node_at o.target s.core.nodes) refl
+target_over : (s : State) (o : Job) (stage : Stage) → SurpriseThere o stage s.core.nodes → SurpriseTold s.core o stage → EndsOver s o stage
+target_over s o Stage.Ending (inl gone) told = inr (inl gone)
+target_over s o Stage.Ending (inr behind) told = by_node (node_at o.target s.core.nodes) refl
   where
     by_node : (x : Option Node) → node_at o.target s.core.nodes ≡ x → TargetOver s o.target
     by_node None e = inr (inl e)
@@ -53,28 +54,31 @@ target_over s o SurpriseStage.Ending (inr behind) told = by_node (node_at o.targ
 target_over s o _ there told = tt
 
 -- the device whose drivers are removed in a finish was told that it has gone
-takes_told : (s : State) (f : Finish) (stage : FinishStage) → FinishKeeps f stage s.core.nodes → TakesTold s f stage
-takes_told s f (FinishStage.Removing w) keeps = λ node first. let head = head_found s.core.nodes f.todo node first in head_taken f.todo node.serial node.state head.0 (keeps.each node.serial node head.1)
+takes_told : (s : State) (f : Job) (stage : Stage) → FinishKeeps f stage s.core.nodes → TakesTold s f stage
+takes_told s f Stage.Removing keeps = λ node first. let head = head_found s.core.nodes f.todo node first in head_taken f.todo node.serial node.state head.0 (keeps.each node.serial node head.1)
 takes_told s f _ keeps = tt
 
-ready_for : (s : State) (o : Operation) → Kept s → Running s o → Ready s o
-ready_for s (Operation.Surprising o) kept runs = target_over s o o.stage (running_stage s (Operation.Surprising o) runs kept).1 (running_told s (Operation.Surprising o) runs kept)
-ready_for s (Operation.Finishing f) kept runs = takes_told s f f.stage (running_good s (Operation.Finishing f) runs kept.good).fits
-ready_for s _ kept runs = tt
+ready_for : (s : State) (o : Job) → Kept s → Running s o → Ready s o
+ready_for s o kept runs = by_course (course_of o.kind) refl
+  where
+    by_course : (course : Course) → course_of o.kind ≡ course → ReadyIn course s o
+    by_course Course.Surprising course = target_over s o o.stage (kept_by Course.Surprising o s.core course (running_stage s o runs kept)).1 (told_by Course.Surprising o s.core course (running_told s o runs kept))
+    by_course Course.Finishing course = takes_told s o o.stage (fits_by Course.Finishing o s.core.nodes course (running_good s o runs kept.good).fits)
+    by_course _ course = tt
 
 -- an operation goes on by what comes next after its next device was taken
-lowers_operation : (s : State) (o : Operation) (step : Step) → Kept s → s.operation ≡ Some o → Lighter s.core.nodes step.state.core.nodes → TakenStep s o step → Falls s step.state
+lowers_operation : (s : State) (o : Job) (step : Step) → Kept s → s.operation ≡ Some o → Lighter s.core.nodes step.state.core.nodes → TakenStep s o step → Falls s step.state
 lowers_operation s o step kept runs light taken =
     let now : Running s taken.now = record { before = o; runs = runs; turn = taken.turn } in
-    let falls = falls_operation s taken.now step kept.good.serials light (ready_for s taken.now kept now) taken.is in
-    subst (λ (x : Option Operation). Falls (set_operation x s) step.state) (sym runs) (falls_turned s step.state o taken.now taken.turn falls)
+    let falls = falls_operation s taken.now step kept.good.serials light (ready_for s taken.now kept now) (own_step s taken.now step (running_good s taken.now now kept.good).fits taken.is) in
+    subst (λ (x : Option Job). Falls (set_operation x s) step.state) (sym runs) (falls_turned s step.state o taken.now taken.turn falls)
 
 -- where a driver is added, no operation runs
 unasked_adds : (label : Label) → IsUnasked label → IsNoAdd label
 unasked_adds (Label.Add path name true) none = absurd none
 unasked_adds _ none = tt
 
-adds_idle : (s : State) (label : Label) (t : State) (o : Operation) → s.operation ≡ Some o → DriverEffect s (Did label) t → IsNoAdd label
+adds_idle : (s : State) (label : Label) (t : State) (o : Job) → s.operation ≡ Some o → DriverEffect s (Did label) t → IsNoAdd label
 adds_idle s label t o runs (DriverEffect.same none e) = unasked_adds label none
 adds_idle s label t o runs (DriverEffect.ended node minor w bad at request over verdict prints e) = subst IsNoAdd (sym prints) tt
 adds_idle s label t o runs (DriverEffect.asked node w shown at more prints e) = subst IsNoAdd (sym prints) tt

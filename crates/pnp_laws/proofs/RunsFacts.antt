@@ -8,29 +8,25 @@ use Rattle.pnp_labels.specs.declared.label.Label.{Label}
 use Rattle.pnp_labels.specs.declared.label.OpKind.{OpKind}
 use Rattle.pnp_labels.specs.declared.states.DevState.{DevState}
 use Rattle.pnp_labels.specs.declared.states.DevState.TheVariants.{NoStack, NotStarted, Stopped, SurpriseRemoved}
-use Rattle.pnp_labels.specs.declared.words.Answer.{Answer}
 use Rattle.pnp_labels.specs.declared.words.Minor.{Minor}
 use Rattle.pnp_labels.specs.declared.words.Minor.TheVariants.{Start, QueryRemove, Remove, CancelRemove, Stop, QueryStop, CancelStop, SurpriseRemoval}
 use Rattle.pnp_model.specs.Cores.{node_at}
-use Rattle.pnp_model.specs.Events.{answer_of, completed}
-use Rattle.pnp_model.specs.Records.{Activity, Driver, Duty, Node, Operation, Rebalance, RebalanceStage, RemovalStage, FinishStage, Settings, State, Step, Surprise, SurpriseStage, Walk}
+use Rattle.pnp_model.specs.Records.{Activity, Course, Driver, Duty, Job, Node, Settings, Stage, State, Step, Walk, course_of}
 use Rattle.pnp_model.specs.Runs.{Entry, Goes}
 use Rattle.pnp_model.specs.Runs.Entry.{Happens, Did, Declines}
-use Rattle.pnp_model.specs.Rebalances.{kind_of as rebalance_kind}
 use Rattle.pnp_model.specs.Starts.{StartBeside}
 use Rattle.pnp_model.specs.Machine.{after_start}
 use Rattle.pnp_model.specs.States.{activity_at, with_core}
 use Rattle.pnp_model.specs.Tasks.{begin}
 use Rattle.pnp_model.specs.Tests.{has, is_surprise_task}
-use Rattle.pnp_model.specs.Trees.{above, children, hangs_on}
+use Rattle.pnp_model.specs.Trees.{above, hangs_on}
 use Rattle.pnp_model.specs.Walks.{state_after}
 use Rattle.pnp_laws.specs.Due.{is_due, leads}
-use Rattle.pnp_laws.specs.Effects.{AnswerEffect, NodeEffect, OpEffect, Request, SameWork, Turn, begun, finish_minor, operation_minor, removal_minor}
-use Rattle.pnp_laws.specs.Kept.{IsGood, is_idle}
+use Rattle.pnp_laws.specs.Effects.{AnswerEffect, NodeEffect, OpEffect, Request, SameWork, Turn, begun}
+use Rattle.pnp_laws.specs.Kept.{IsGood, JobFits, OperationFits, SurpriseEnds, asked_in, is_idle}
 use Rattle.pnp_laws.specs.Reached.{IsReached}
 use Rattle.pnp_laws.specs.Strays.{NobodyForgotten}
-use Rattle.pnp_laws.specs.Words.{spared}
-use Rattle.resource_reqs.specs.Resources.{Reqs}
+use Rattle.pnp_laws.specs.Words.{spared, spared_in}
 use Rattle.pnp_laws.proofs.Declined.{idle_after}
 use Rattle.pnp_laws.proofs.Due.{no_due, none_leads}
 use Rattle.pnp_laws.proofs.EffectViews.{Origin, origin}
@@ -43,12 +39,15 @@ use Rattle.pnp_laws.proofs.Reaching.{kept, reached_on}
 use Rattle.pnp_laws.proofs.RunsStand.{Kept, reaches_kept}
 use Rattle.pnp_laws.proofs.RunsWhole.{reached_is_whole}
 use Rattle.pnp_laws.proofs.Sounds.{no_children}
-use Rattle.pnp_laws.proofs.Standing.{AllTold, FinishesBut, StageKept, SurpriseOrder, SurpriseTold, ToldKept, rebalance_waiting, waiting}
+use Rattle.pnp_laws.proofs.Standing.{AllTold, FinishesBut, StageKept, SurpriseOrder, SurpriseTold, ToldKept, rebalance_waiting, waiting, JobKept, JobTold, waiting_in}
 use Rattle.pnp_laws.proofs.StrayMoves.{From, Seen, from, spared_by}
+use Rattle.pnp_laws.proofs.EffectsOfOperations.{begun_work, turn_work}
+use Rattle.pnp_laws.proofs.Turns.{running_good}
 use Rattle.pnp_laws.proofs.Truths.{or_left}
-use Rattle.pnp_laws.specs.Facts.{AdriftSeen, FactsLaw, IdleChildless, IsAdrift, IsDriven, NobodyAdrift, SeenTo, StopsNobody, to_finish, to_restart}
+use Rattle.pnp_laws.specs.Facts.{AdriftSeen, FactsLaw, IdleChildless, IsAdrift, IsDriven, IsRemovalOrFinish, NobodyAdrift, SeenIn, SeenTo, StopsNobody, to_finish, to_restart}
 use Rattle.pnp_laws.proofs.Related.{IsUpAt, JoinsUp, related_up}
 use Rattle.pnp_laws.proofs.RunsStrays.{each_stray_is_seen, nobody_is_forgotten}
+use Rattle.pnp_laws.proofs.FitsBy.{asked_is}
 
 -- States -----------------------------------------------------------------------------------
 
@@ -87,17 +86,9 @@ adrift_not : (s : State) (k : ℕ) (n : Node) (x : DevState) → n.state ≡ x �
 adrift_not s k n x e a b (inl stopped) = a (sym e ∙ stopped)
 adrift_not s k n x e a b (inr stray) = b (sym e ∙ stray.waits)
 
-restarts_are : (r : Rebalance) (stage : RebalanceStage) (k : ℕ) → has (rebalance_waiting r stage) k ≡ true → has (to_restart r stage) k ≡ true
-restarts_are r (RebalanceStage.Asking w) k h = h
-restarts_are r (RebalanceStage.TakingBack w) k h = h
-restarts_are r RebalanceStage.Searching k h = h
-restarts_are r (RebalanceStage.Cancelling w) k h = h
-restarts_are r RebalanceStage.Stuck k h = h
-restarts_are r (RebalanceStage.Stopping w) k h = h
-restarts_are r RebalanceStage.Committing k h = h
-restarts_are r (RebalanceStage.Restarting w) k h = h
-restarts_are r RebalanceStage.Failed k h = h
-restarts_are r RebalanceStage.Ending k h = h
+restarts_are : (r : Job) (stage : Stage) (k : ℕ) → has (rebalance_waiting r stage) k ≡ true → has (to_restart r stage) k ≡ true
+restarts_are r Stage.Asking k h = h
+restarts_are r _ k h = h
 
 module _ (s : State) (k : ℕ) (n : Node) (at : node_at k s.core.nodes ≡ Some n) (adrift : IsAdrift s k n) where
   -- of the set of a surprise removal who is not to be finished any more has no drivers, or stayed behind
@@ -112,62 +103,49 @@ module _ (s : State) (k : ℕ) (n : Node) (at : node_at k s.core.nodes ≡ Some 
       by_todo true e = e
       by_todo false e = absurd (by_behind (has behind k) refl e)
 
-  finished_yet : (o : Surprise) (stage : SurpriseStage) → SurpriseOrder s.core o stage → SurpriseTold s.core o stage → has o.set k ≡ true → has (to_finish o stage) k ≡ true
-  finished_yet o (SurpriseStage.Telling w) order told inside = inside
-  finished_yet o SurpriseStage.Next order told inside = not_done o.set o.behind o.todo order told.stayed inside
-  finished_yet o (SurpriseStage.Removing w) order told inside = not_done o.set o.behind o.todo order.0 told.1.stayed inside
-  finished_yet o SurpriseStage.Settling order told inside = not_done o.set o.behind o.todo order.0 told.stayed inside
-  finished_yet o SurpriseStage.Ending order told inside = not_done o.set o.behind [] order told.stayed inside
+  finished_yet : (o : Job) (stage : Stage) → SurpriseEnds o stage → SurpriseOrder s.core o stage → SurpriseTold s.core o stage → has o.set k ≡ true → has (to_finish o stage) k ≡ true
+  finished_yet o Stage.Telling ends order told inside = inside
+  finished_yet o Stage.Next ends order told inside = not_done o.set o.behind o.todo order told.stayed inside
+  finished_yet o Stage.Removing ends order told inside = not_done o.set o.behind o.todo order.0 told.1.stayed inside
+  finished_yet o Stage.Settling ends order told inside = not_done o.set o.behind o.todo order.0 told.stayed inside
+  finished_yet o Stage.Ending ends order told inside = not_done o.set o.behind [] order told.stayed inside
+  finished_yet o _ ends order told inside = absurd ends
 
   -- one that is Stopped, and one that holds something
-  stopped_seen : (o : Option Operation) → StageKept o s.core → ToldKept o s.core → has (waiting o) k ≡ true → SeenTo o k n
-  stopped_seen None stage told h = absurd (cc)
-  stopped_seen (Some (Operation.Rebalancing r)) stage told h = inr (restarts_are r r.stage k h)
-  stopped_seen (Some (Operation.Removing o)) stage told h = absurd (cc)
-  stopped_seen (Some (Operation.Surprising o)) stage told h = (h, finished_yet o o.stage stage.0 told h)
-  stopped_seen (Some (Operation.Finishing f)) stage told h = absurd (cc)
+  stopped_seen : (o : Option Job) → OperationFits o s.core.nodes → StageKept o s.core → ToldKept o s.core → has (waiting o) k ≡ true → SeenTo o k n
+  stopped_seen None fits stage told h = absurd (cc)
+  stopped_seen (Some o) fits stage told h = by_course (course_of o.kind) fits stage told h
+    where
+      by_course : (course : Course) → JobFits course o s.core.nodes → JobKept course o s.core → JobTold course o s.core → has (waiting_in course o) k ≡ true → SeenIn course o k n
+      by_course Course.Rebalancing fits stage told h = inr (restarts_are o o.stage k h)
+      by_course Course.Surprising fits stage told h = (h, finished_yet o o.stage fits.ends stage.0 told h)
+      by_course Course.Removing fits stage told h = absurd (cc)
+      by_course Course.Finishing fits stage told h = absurd (cc)
 
-  stray_seen : (o : Option Operation) → StageKept o s.core → ToldKept o s.core → n.state ≡ NotStarted → has (spared_by o) k ≡ true → SeenTo o k n
-  stray_seen None stage told waits h = absurd (cc)
-  stray_seen (Some (Operation.Rebalancing r)) stage told waits h =
-      inl (waits, elim (has_cases r.target k [] h) [ inl e ↦ e | inr none ↦ absurd (cc) ])
-  stray_seen (Some (Operation.Removing o)) stage told waits h = absurd (cc)
-  stray_seen (Some (Operation.Surprising o)) stage told waits h = (h, finished_yet o o.stage stage.0 told h)
-  stray_seen (Some (Operation.Finishing f)) stage told waits h = absurd (cc)
+  stray_seen : (o : Option Job) → OperationFits o s.core.nodes → StageKept o s.core → ToldKept o s.core → n.state ≡ NotStarted → has (spared_by o) k ≡ true → SeenTo o k n
+  stray_seen None fits stage told waits h = absurd (cc)
+  stray_seen (Some o) fits stage told waits h = by_course (course_of o.kind) fits stage told h
+    where
+      by_course : (course : Course) → JobFits course o s.core.nodes → JobKept course o s.core → JobTold course o s.core → has (spared_in o course) k ≡ true → SeenIn course o k n
+      by_course Course.Rebalancing fits stage told h = inl (waits, elim (has_cases o.target k [] h) [ inl e ↦ e | inr none ↦ absurd (cc) ])
+      by_course Course.Surprising fits stage told h = (h, finished_yet o o.stage fits.ends stage.0 told h)
+      by_course Course.Removing fits stage told h = absurd (cc)
+      by_course Course.Finishing fits stage told h = absurd (cc)
 
 adrift_seen : (s : State) → Kept s → Seen s → AdriftSeen s
 adrift_seen s holds seen k n at (inl stopped) =
-    elim (holds.stands.due k n at stopped) [ inl due ↦ inl due | inr more ↦ inr (stopped_seen s k n at (inl stopped) s.operation holds.stands.stage holds.waits.told more) ]
+    elim (holds.stands.due k n at stopped) [ inl due ↦ inl due | inr more ↦ inr (stopped_seen s k n at (inl stopped) s.operation holds.good.fits holds.stands.stage holds.waits.told more) ]
 adrift_seen s holds seen k n at (inr stray) =
-    elim (seen.strays k n at stray) [ inl due ↦ inl due | inr more ↦ inr (stray_seen s k n at (inr stray) s.operation holds.stands.stage holds.waits.told stray.waits more) ]
+    elim (seen.strays k n at stray) [ inl due ↦ inl due | inr more ↦ inr (stray_seen s k n at (inr stray) s.operation holds.good.fits holds.stands.stage holds.waits.told stray.waits more) ]
 
 -- In a disable, an eject or a finish nobody is -------------------------------------------------
 
-quiet_runs : (o : Option Operation) → StopsNobody o → (p : Operation) × (o ≡ Some p)
+quiet_runs : (o : Option Job) → StopsNobody o → (p : Job) × (o ≡ Some p)
 quiet_runs None h = absurd h
 quiet_runs (Some p) h = (p, refl)
 
-completed_quiet : (answer : Answer) (o : Operation) → StopsNobody (Some (completed answer o)) → StopsNobody (Some o)
-completed_quiet answer (Operation.Rebalancing r) h = absurd h
-completed_quiet answer (Operation.Removing o) h = tt
-completed_quiet answer (Operation.Surprising o) h = absurd h
-completed_quiet answer (Operation.Finishing f) h = tt
-
-work_quiet : (o p : Operation) → SameWork o p → StopsNobody (Some p) → StopsNobody (Some o)
-work_quiet (Operation.Removing o) p work h = tt
-work_quiet (Operation.Finishing f) p work h = tt
-work_quiet (Operation.Rebalancing r) (Operation.Removing p) work h = absurd (let sort = work.sort in cc)
-work_quiet (Operation.Rebalancing r) (Operation.Finishing f) work h = absurd (not_finish r.wanted work.kind)
-  where
-    not_finish : (wanted : Option Reqs) → OpKind.Finish ≡ rebalance_kind wanted → ⊥
-    not_finish None e = absurd (cc)
-    not_finish (Some reqs) e = absurd (cc)
-work_quiet (Operation.Surprising o) (Operation.Removing p) work h = absurd (let sort = work.sort in cc)
-work_quiet (Operation.Surprising o) (Operation.Finishing f) work h = absurd (let kind = work.kind in cc)
-work_quiet (Operation.Rebalancing r) (Operation.Rebalancing p) work h = absurd h
-work_quiet (Operation.Rebalancing r) (Operation.Surprising p) work h = absurd h
-work_quiet (Operation.Surprising o) (Operation.Rebalancing p) work h = absurd h
-work_quiet (Operation.Surprising o) (Operation.Surprising p) work h = absurd h
+work_quiet : (o p : Job) → SameWork o p → StopsNobody (Some p) → StopsNobody (Some o)
+work_quiet o p work h = subst (λ (x : OpKind). IsRemovalOrFinish (course_of x)) work.kind h
 
 -- where such an operation begins its task comes first, so nobody is due
 begun_leads : (s : State) (step : Step) → TaskStep s step → s.operation ≡ None → StopsNobody step.state.operation → leads s.tasks ≡ []
@@ -186,7 +164,7 @@ begun_leads s _ (TaskStep.begins kind node first alone at fits) none h =
     by_kind OpKind.Rebalance h = refl
     by_kind OpKind.Disable h = refl
     by_kind OpKind.Eject h = refl
-    by_kind OpKind.Surprise h = absurd h
+    by_kind OpKind.Surprise h = absurd (subst (λ (x : OpKind). IsRemovalOrFinish (course_of x)) (begun_work s OpKind.Surprise node).0 h)
     by_kind OpKind.Finish h = refl
     by_kind OpKind.Change h = refl
 
@@ -206,33 +184,21 @@ abbrev is_stop : Option Minor → Bool
 is_stop (Some Stop) = true
 is_stop _ = false
 
-removal_stops : (stage : RemovalStage) → is_stop (removal_minor stage) ≡ false
-removal_stops RemovalStage.Next = refl
-removal_stops (RemovalStage.Asking w) = refl
-removal_stops (RemovalStage.TakingBack w) = refl
-removal_stops (RemovalStage.Cancelling w) = refl
-removal_stops (RemovalStage.Removing w) = refl
-removal_stops RemovalStage.Settling = refl
-removal_stops RemovalStage.Ending = refl
+quiet_stops : (course : Course) (stage : Stage) → IsRemovalOrFinish course → is_stop (asked_in course stage) ≡ false
+quiet_stops Course.Removing stage h = by_stage stage
+  where
+    by_stage : (stage : Stage) → is_stop (asked_in Course.Removing stage) ≡ false
+    by_stage Stage.Asking = refl
+    by_stage _ = refl
+quiet_stops Course.Finishing stage h = by_stage stage
+  where
+    by_stage : (stage : Stage) → is_stop (asked_in Course.Finishing stage) ≡ false
+    by_stage Stage.Removing = refl
+    by_stage _ = refl
+quiet_stops _ stage h = absurd h
 
-finish_stops : (stage : FinishStage) → is_stop (finish_minor stage) ≡ false
-finish_stops FinishStage.Next = refl
-finish_stops (FinishStage.Removing w) = refl
-finish_stops FinishStage.Leaving = refl
-finish_stops FinishStage.Holding = refl
-
-quiet_stops : (o : Operation) → StopsNobody (Some o) → is_stop (operation_minor o) ≡ false
-quiet_stops (Operation.Removing o) h = removal_stops o.stage
-quiet_stops (Operation.Finishing f) h = finish_stops f.stage
-quiet_stops (Operation.Rebalancing r) h = absurd h
-quiet_stops (Operation.Surprising o) h = absurd h
-
-turned_quiet : (s : State) (o p : Operation) → Turn s o p → StopsNobody (Some o) → StopsNobody (Some p)
-turned_quiet s o _ (Turn.same _) h = h
-turned_quiet s _ _ (Turn.queries o node stage first shut) h = tt
-turned_quiet s _ _ (Turn.removes o node d ds stage first stays stack) h = absurd h
-turned_quiet s _ _ (Turn.settles o node stage first stays stack) h = absurd h
-turned_quiet s _ _ (Turn.finishes f k node stage ready at) h = tt
+turned_quiet : (s : State) (o p : Job) → Turn s o p → StopsNobody (Some o) → StopsNobody (Some p)
+turned_quiet s o p turn h = subst (λ (x : OpKind). IsRemovalOrFinish (course_of x)) (sym (turn_work s o p turn).kind) h
 
 stopped_before : (minor : Minor) (bad : Bool) (x : DevState) → is_stop (Some minor) ≡ false → state_after minor bad x ≡ Stopped → x ≡ Stopped
 stopped_before Start true x other h = h
@@ -247,14 +213,14 @@ stopped_before QueryStop false x other h = absurd (cc)
 stopped_before CancelStop bad x other h = absurd (cc)
 stopped_before SurpriseRemoval bad x other h = absurd (cc)
 
-module _ (s : State) (label : Label) (t : State) (o : Operation) (runs : s.operation ≡ Some o) (quiet : StopsNobody (Some o)) where
+module _ (s : State) (label : Label) (t : State) (o : Job) (good : IsGood s) (runs : s.operation ≡ Some o) (quiet : StopsNobody (Some o)) where
   asks_no_stop : (n : Node) (minor : Minor) (w : Walk) → Request s n minor w → is_stop (Some minor) ≡ false
   asks_no_stop n _ w (Request.starts _ acts) = absurd (let none = acts.none in cc)
   asks_no_stop n _ w (Request.undoes _ acts) = absurd (let none = acts.none in cc)
-  asks_no_stop n minor w (Request.operates _ _ asking) =
+  asks_no_stop n _ w (Request.operates _ asking) =
       let same : o ≡ asking.runs.before = (let there = asking.runs.runs in cc) in
-      let still = turned_quiet s asking.runs.before asking.operation asking.runs.turn (subst (λ (x : Operation). StopsNobody (Some x)) same quiet) in
-      ap is_stop (sym asking.minor_is) ∙ quiet_stops asking.operation still
+      let still = turned_quiet s asking.runs.before asking.operation asking.runs.turn (subst (λ (x : Job). StopsNobody (Some x)) same quiet) in
+      ap is_stop (sym (asked_is asking.operation s.core.nodes w (running_good s asking.operation asking.runs good).fits asking.walk)) ∙ quiet_stops (course_of asking.operation.kind) asking.operation.stage still
 
   stopped_from : (k : ℕ) (m : Node) → Origin s label t k m → m.state ≡ Stopped → (n : Node) × (node_at k s.core.nodes ≡ Some n) × (n.state ≡ Stopped)
   stopped_from k _ (Origin.was n at) e = (n, at, e)
@@ -263,13 +229,13 @@ module _ (s : State) (label : Label) (t : State) (o : Operation) (runs : s.opera
   stopped_from k _ (Origin.stacks n d ds name at acts prints) e = absurd (let none = acts.none in cc)
   stopped_from k _ (Origin.assigned n phase plan at acts search part now) e = absurd (let none = acts.none in cc)
   stopped_from k _ (Origin.stripped n w at request prints) e = absurd (cc)
-  stopped_from k _ (Origin.commits r n rebalances stage at) e = absurd (subst StopsNobody (sym (ap (λ (x : Option Operation). x) runs) ∙ rebalances) quiet)
+  stopped_from k _ (Origin.commits r n rebalances course stage at) e = absurd (subst (λ (x : Course). IsRemovalOrFinish x) course (subst StopsNobody (sym runs ∙ rebalances) quiet))
   stopped_from k _ (Origin.joins node d there none own) e = absurd (cc)
 
 -- A step or an event ---------------------------------------------------------------------------
 
 -- while an operation runs nothing is being started
-idle_in : (s : State) (o : Operation) (k : ℕ) → IsGood s → s.operation ≡ Some o → activity_at k s.activities ≡ None
+idle_in : (s : State) (o : Job) (k : ℕ) → IsGood s → s.operation ≡ Some o → activity_at k s.activities ≡ None
 idle_in s o k good runs = subst (λ (x : List Activity). activity_at k x ≡ None) (sym (alone s o good runs)) refl
 
 -- who is adrift was so before, where the nodes are the same and nothing was being started
@@ -280,18 +246,20 @@ still_adrift s t k n idle (inr stray) = inr (record { waits = stray.waits; holds
 same_nobody : (s t : State) → t.core.nodes ≡ s.core.nodes → ((k : ℕ) → activity_at k s.activities ≡ None) → NobodyAdrift s → NobodyAdrift t
 same_nobody s t same idle h k n at adrift = h k n (subst (λ (x : List Node). node_at k x ≡ Some n) same at) (still_adrift s t k n (idle k) adrift)
 
-spares_nobody : (o : Operation) (k : ℕ) → StopsNobody (Some o) → has (spared o) k ≡ true → ⊥
-spares_nobody (Operation.Rebalancing r) k h g = h
-spares_nobody (Operation.Removing o) k h g = absurd (cc)
-spares_nobody (Operation.Surprising o) k h g = h
-spares_nobody (Operation.Finishing f) k h g = absurd (cc)
+spares_nobody : (o : Job) (k : ℕ) → StopsNobody (Some o) → has (spared o) k ≡ true → ⊥
+spares_nobody o k h g = by_course (course_of o.kind) h g
+  where
+    by_course : (course : Course) → IsRemovalOrFinish course → has (spared_in o course) k ≡ true → ⊥
+    by_course Course.Removing h g = cc
+    by_course Course.Finishing h g = cc
+    by_course _ h g = h
 
 module _ (settings : Settings) (rack : List Driver) (s : State) (reached : IsReached settings rack s) (old : StopsNobody s.operation → NobodyAdrift s) where
   good : IsGood s
   good = (reaches_kept settings rack reached.0 s reached.1).good
 
   -- an operation that runs goes on
-  goes_quiet : (label : Label) (t : State) (o p : Operation) → s.operation ≡ Some o → t.operation ≡ Some p → IsGood t → SameWork o p → NodeEffect s label t → StopsNobody (Some p) → NobodyAdrift t
+  goes_quiet : (label : Label) (t : State) (o p : Job) → s.operation ≡ Some o → t.operation ≡ Some p → IsGood t → SameWork o p → NodeEffect s label t → StopsNobody (Some p) → NobodyAdrift t
   goes_quiet label t o p runs after now work nodes h k m at adrift = by_adrift adrift
     where
       quiet : StopsNobody (Some o)
@@ -307,11 +275,11 @@ module _ (settings : Settings) (rack : List Driver) (s : State) (reached : IsRea
       by_from waits holds (From.placed a found placed) = none_acts t p k a now after found
       by_from waits holds (From.moved q n rebalances there moves) =
           let same : q ≡ o = (let one = rebalances in let two = runs in cc) in
-          spares_nobody o k quiet (subst (λ (x : Operation). has (spared x) k ≡ true) same (moves waits).1)
+          spares_nobody o k quiet (subst (λ (x : Job). has (spared x) k ≡ true) same (moves waits).1)
 
       by_adrift : IsAdrift t k m → ⊥
       by_adrift (inl stopped) =
-          let (n, there, state) = stopped_from s label t o runs quiet k m (origin s label t good.serials k m nodes at) stopped in
+          let (n, there, state) = stopped_from s label t o good runs quiet k m (origin s label t good.serials k m nodes at) stopped in
           before k n there (inl state)
       by_adrift (inr stray) = by_from stray.waits stray.holds (from s label t good (reached_is_whole settings rack s reached) nodes k m at)
 
@@ -348,7 +316,7 @@ module _ (settings : Settings) (rack : List Driver) (s : State) (reached : IsRea
   answered label t (AnswerEffect.stays word nodes acts after) h = still label t nodes (subst StopsNobody after h)
   answered label t (AnswerEffect.answers word nodes j a ok found acts after) h = still label t nodes (subst StopsNobody after h)
   answered label t (AnswerEffect.answered word nodes acts ok o runs after) h =
-      still label t nodes (subst StopsNobody (sym runs) (completed_quiet (answer_of ok) o (subst StopsNobody after h)))
+      still label t nodes (subst StopsNobody (sym runs) (subst StopsNobody after h))
 
 quiet_goes : (settings : Settings) (rack : List Driver) (s : State) (entry : Entry) (t : State) → IsReached settings rack s → (StopsNobody s.operation → NobodyAdrift s) → Goes settings s entry t → StopsNobody t.operation → NobodyAdrift t
 quiet_goes settings rack s (Happens event label) t reached old goes = answered settings rack s reached old label t (effect_goes settings s (Happens event label) t goes).operation

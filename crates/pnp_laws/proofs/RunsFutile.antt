@@ -2,8 +2,8 @@
 use Rattle.std.proofs.Common.{◌≡◌, ◌⊎◌, inl, inr, false, List, [], Option, Some, None, refl, sym, ap, ◌∙◌, subst}
 use Rattle.resource_reqs.specs.Resources.{Reqs}
 use Rattle.resource_reqs.specs.Spelling.Answer.{assignment, no_fit, spent}
-use Rattle.pnp_model.specs.Records.{Core, Driver, Node, Operation, State, Step, Settings, Rebalance, RebalanceStage, Found}
-use Rattle.pnp_model.specs.Rebalances.{begun_with, end_of, has_refused, has_refused_in, kind_of, trouble_of, over}
+use Rattle.pnp_model.specs.Records.{Core, Course, Driver, Found, Job, Node, Settings, Stage, State, Step, course_of}
+use Rattle.pnp_model.specs.Rebalances.{begun_with, end_of, has_refused, has_refused_in, trouble_of, over}
 use Rattle.pnp_model.specs.Tests.{has}
 use Rattle.pnp_model.specs.Runs.{Entry, Goes, Run}
 use Rattle.pnp_model.specs.Runs.Entry.{Did}
@@ -12,6 +12,7 @@ use Rattle.pnp_labels.specs.Texts.{Text}
 use Rattle.pnp_labels.specs.declared.label.Label.{Label}
 use Rattle.pnp_labels.specs.declared.label.OpKind.{OpKind}
 use Rattle.pnp_labels.specs.declared.label.OpEnd.{OpEnd}
+use Rattle.pnp_laws.specs.Kept.{kind_by}
 use Rattle.pnp_laws.specs.Reached.{IsReached}
 use Rattle.pnp_laws.specs.Holdings.{has_plan}
 use Rattle.pnp_laws.specs.Rebalanced.{EndsUndone, Undone, Underway}
@@ -26,25 +27,25 @@ use Rattle.pnp_laws.specs.Effects as ef
 pub record Since (kind : OpKind) (settings : Settings) (rack : List Driver) (path : Text) (before begun : State) (entries : List Entry) (last : State) : Type 0 where
   pub first : Underway path before.core begun
   pub fresh : first.frame.refused ≡ []
-  pub kinds : kind_of first.frame.wanted ≡ kind
+  pub kinds : kind_by first.frame.wanted ≡ kind
   pub reached : IsReached settings rack begun
   pub lasts : Lasts settings path before.core begun first.frame entries last
 
 pub since_begin : (kind : OpKind) (wanted : Node → Option Reqs) (settings : Settings) (rack : List Driver) (earlier entries : List Entry) (before begun last : State) (path : Text) →
-    ((node : Node) → ef.begun before kind node ≡ Operation.Rebalancing (begun_with before.core node (wanted node))) → ((node : Node) → kind_of (wanted node) ≡ kind) →
+    ((node : Node) → ef.begun before kind node ≡ begun_with before.core kind node (wanted node)) → ((node : Node) → kind_by (wanted node) ≡ kind) → course_of kind ≡ Course.Rebalancing →
     Reaches settings rack earlier before → Goes settings before (Did (Label.Begin kind path)) begun → Run settings begun entries last → AllWithin entries →
     Since kind settings rack path before begun entries last
-since_begin kind wanted settings rack earlier entries before begun last path form kinds reaches goes run within =
+since_begin kind wanted settings rack earlier entries before begun last path form kinds course reaches goes run within =
     let at_before : IsReached settings rack before = (earlier, reaches) in
     let good = reached_is_good settings rack before at_before in
     let tree = reached_tree settings rack before at_before in
     let at_begun = reached_on settings rack before (Did (Label.Begin kind path)) begun at_before goes in
     let right = begins_right settings before begun kind path (reached_fine settings rack before at_before) goes in
-    let first = underway_begun path kind (wanted right.node) before begun right (form right.node) good.serials in
+    let first = underway_begun path kind (wanted right.node) before begun right (form right.node) course good.serials in
     record {
       first = first.0;
       fresh = first.1;
-      kinds = ap kind_of first.2 ∙ kinds right.node;
+      kinds = ap kind_by first.2 ∙ kinds right.node;
       reached = at_begun;
       lasts = lasts settings rack path before.next_serial before.core tree begun entries last at_begun first.0 within run;
     }
@@ -53,13 +54,13 @@ since_begin kind wanted settings rack earlier entries before begun last path for
 pub since_rebalance : (settings : Settings) (rack : List Driver) (earlier entries : List Entry) (before begun last : State) (path : Text) →
     Reaches settings rack earlier before → Goes settings before (Did (Label.Begin OpKind.Rebalance path)) begun → Run settings begun entries last → AllWithin entries →
     Since OpKind.Rebalance settings rack path before begun entries last
-since_rebalance settings rack earlier entries before begun last path = since_begin OpKind.Rebalance (λ node. None) settings rack earlier entries before begun last path (λ node. refl) (λ node. refl)
+since_rebalance settings rack earlier entries before begun last path = since_begin OpKind.Rebalance (λ node. None) settings rack earlier entries before begun last path (λ node. refl) (λ node. refl) refl
 
 -- what runs still is a rebalance, or a change
-pub kind_since : (kind : OpKind) (settings : Settings) (rack : List Driver) (path : Text) (before begun : State) (entries : List Entry) (last : State) (since : Since kind settings rack path before begun entries last) → kind_of since.lasts.under.frame.wanted ≡ kind
-kind_since kind settings rack path before begun entries last since = ap kind_of since.lasts.wanted ∙ since.kinds
+pub kind_since : (kind : OpKind) (settings : Settings) (rack : List Driver) (path : Text) (before begun : State) (entries : List Entry) (last : State) (since : Since kind settings rack path before begun entries last) → kind_by since.lasts.under.frame.wanted ≡ kind
+kind_since kind settings rack path before begun entries last since = ap kind_by since.lasts.wanted ∙ since.kinds
 
-no_change : (wanted : Option Reqs) → kind_of wanted ≡ OpKind.Rebalance → wanted ≡ None
+no_change : (wanted : Option Reqs) → kind_by wanted ≡ OpKind.Rebalance → wanted ≡ None
 no_change None e = refl
 no_change (Some wanted) e = cc
 
@@ -80,9 +81,9 @@ end_is_over op settings rack path before begun entries last after kind end_path 
     ]
 
 -- it ends with what it found, or since the target of a change refused
-pub end_found : (s : State) (r : Rebalance) (kind : OpKind) (path : Text) (end_result : OpEnd) (t : State) → IsOver s r (record { label = Label.End kind path end_result; state = t }) → end_result ≡ re.result r.found (has_refused r)
+pub end_found : (s : State) (r : Job) (kind : OpKind) (path : Text) (end_result : OpEnd) (t : State) → IsOver s r (record { label = Label.End kind path end_result; state = t }) → end_result ≡ re.result r.found (has_refused r)
 end_found s r kind path end_result t h =
-    let label : Label.End kind path end_result ≡ Label.End (kind_of r.wanted) r.path (re.result r.found (has_refused r)) = ap (λ (x : Step). x.label) h.is in
+    let label : Label.End kind path end_result ≡ Label.End r.kind r.path (re.result r.found (has_refused r)) = ap (λ (x : Step). x.label) h.is in
     cc
 
 found_nothing : (found : Found) → ((OpEnd.NoFit ≡ end_of found) ⊎ (OpEnd.Spent ≡ end_of found)) → has_plan found ≡ false
@@ -95,7 +96,7 @@ restored : (path : Text) (before : Core) (last after : State) (u : Underway path
 restored path before last after u label h plain none =
     let r = u.frame in
     let core : after.core ≡ last.core = ap (λ (x : Step). x.state.core) h.is ∙ after_core r (over last.core r r.found r.wanted) last.core last in
-    elim (subst (λ (x : Option Reqs). EndsUndone before last.core r x) plain (subst (λ (x : RebalanceStage). Undone before last.core r x) h.ending u.undone)) [
+    elim (subst (λ (x : Option Reqs). EndsUndone before last.core r x) plain (subst (λ (x : Stage). Undone before last.core r x) h.ending u.undone)) [
       | inl plan ↦ absurd (cc)
       | inr same ↦
           record {

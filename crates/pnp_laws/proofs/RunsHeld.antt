@@ -1,5 +1,5 @@
 -- In each state of a run each device holds a whole alternative or nothing, and not more is held than events can bring.
-use Rattle.std.proofs.Common.{ℕ, zero, suc, ◌+◌, ◌*◌, ◌≤◌, ◌<◌, ◌≡◌, ◌≢◌, inl, inr, true, false, List, [], ◌∷◌, length, map, Option, Some, refl, sym, ap, ◌∙◌, subst, arith}
+use Rattle.std.proofs.Common.{ℕ, zero, suc, ◌+◌, ◌*◌, ◌≤◌, ◌<◌, ◌≡◌, ◌≢◌, inl, inr, true, false, List, [], ◌∷◌, length, map, Some, refl, sym, ap, ◌∙◌, subst, arith}
 use Rattle.std.specs.List.{AllByRecursion, AllZip, IsDistinct, list_any}
 use Rattle.std.specs.Prelude.{eqb}
 use Rattle.std.proofs.lemmas.Bool.{cases_eq}
@@ -13,7 +13,7 @@ use Rattle.pnp_labels.specs.declared.label.Label.{Label}
 use Rattle.pnp_model.specs.Cores.{node_at}
 use Rattle.pnp_model.specs.Frames.{fixed_beside, held_by}
 use Rattle.pnp_model.specs.Rebalances.{committed, movers, others, plan_of}
-use Rattle.pnp_model.specs.Records.{Driver, Node, Operation, RebalanceStage, Settings, State}
+use Rattle.pnp_model.specs.Records.{Driver, Node, Settings, State, Stage}
 use Rattle.pnp_model.specs.Runs.{Entry, Goes, Run, opening, printed}
 use Rattle.pnp_model.specs.Runs.Entry.{Happens, Did, Declines}
 use Rattle.pnp_model.specs.Tests.{has}
@@ -22,7 +22,7 @@ use Rattle.pnp_laws.specs.Ends.{events}
 use Rattle.pnp_laws.specs.Held.{AllHoldParts, AreWithin, FewHeldLaw, HoldsPart, PartsLaw}
 use Rattle.pnp_laws.specs.Kept.{Ascending}
 use Rattle.pnp_laws.specs.Keys.{BirthsApart}
-use Rattle.pnp_laws.specs.Plans.{IsPlanned, PlanKept, StagePlan}
+use Rattle.pnp_laws.specs.Plans.{IsPlanned, StagePlan}
 use Rattle.pnp_laws.specs.Reached.{IsReached}
 use Rattle.pnp_laws.proofs.Closures.{head_at, tail_at}
 use Rattle.pnp_laws.proofs.EffectViews.{Origin, origin}
@@ -39,6 +39,7 @@ use Rattle.pnp_laws.proofs.Runs.{root_is}
 use Rattle.pnp_laws.proofs.RunsKeys.{other_serial}
 use Rattle.pnp_laws.proofs.RunsSerials.{few_births}
 use Rattle.pnp_laws.proofs.Sharing.{part_not}
+use Rattle.pnp_laws.proofs.FitsBy.{plan_by}
 
 -- A whole alternative or nothing ---------------------------------------------------------------------
 
@@ -56,8 +57,8 @@ module _ (s : State) (label : Label) (t : State) (order : Ascending 0 s.core.nod
   part_from k _ (Origin.assigned n phase plan at acts search part now) =
       inr (own_whole n.reqs plan (plan_is (fixed_beside s.core (n.serial ∷ [])) (n.reqs ∷ []) part.budget plan part.answer).whole)
   part_from k _ (Origin.stripped n w at request prints) = inl refl
-  part_from k _ (Origin.commits r n runs is at) =
-      let fits = subst (λ (x : RebalanceStage). StagePlan r x s.core.reserved s.core.nodes) is (subst (λ (x : Option Operation). PlanKept x s.core.reserved s.core.nodes) runs planned) in
+  part_from k _ (Origin.commits r n runs course is at) =
+      let fits = subst (λ (x : Stage). StagePlan r x s.core.reserved s.core.nodes) is (plan_by s r planned runs course) in
       elim (member (movers r) k) [
         | inl h ↦ inr (mover_whole r s.core.reserved s.core.nodes k n fits at h)
         | inr h ↦

@@ -2,27 +2,31 @@
 use Rattle.std.proofs.Common.{ℕ, ◌≡◌, ◌⊎◌, ◌∙◌, inl, inr, true, false, List, Option, Some, None, refl, sym, ap, subst}
 use Rattle.pnp_labels.specs.declared.event.Event.{Event}
 use Rattle.pnp_labels.specs.declared.label.Label.{Label}
+use Rattle.pnp_labels.specs.declared.label.OpKind.{OpKind}
+use Rattle.std.specs.Option.{option_map}
+use Rattle.pnp_model.specs.Walks.{after}
 use Rattle.pnp_model.specs.Cores.{node_at}
 use Rattle.pnp_model.specs.Events.{answer_of}
-use Rattle.pnp_model.specs.Records.{Driver, Handle, Node, Operation, Settings, State}
+use Rattle.pnp_model.specs.Records.{Course, Driver, Handle, Job, Node, Settings, State, course_of}
 use Rattle.pnp_model.specs.Handles.{is_open}
 use Rattle.pnp_model.specs.Runs.{Entry, Goes, opening, printed}
 use Rattle.pnp_model.specs.Runs.Entry.{Happens, Did, Declines}
 use Rattle.pnp_laws.specs.Effects.{AnswerEffect, Effect, Running, Turn}
 use Rattle.pnp_laws.specs.Reached.{IsReached}
-use Rattle.pnp_laws.specs.Waiting.{NeitherRuns, ReadyLaw, is_to_finish}
+use Rattle.pnp_laws.specs.Waiting.{IsNeither, NeitherRuns, ReadyLaw, is_to_finish}
 use Rattle.pnp_laws.specs.Words.{IsWord}
 use Rattle.pnp_laws.proofs.Declined.{idle_before}
 use Rattle.pnp_laws.proofs.EffectsOf.{effect_goes}
+use Rattle.pnp_laws.proofs.EffectsOfOperations.{turn_work}
 use Rattle.pnp_laws.proofs.EventChanges.{relations_stay}
 use Rattle.pnp_laws.proofs.FirstFinish.{IsFinishing, StaysDue, command_on, declined_on, running_on, steps_on}
 use Rattle.pnp_laws.proofs.Readied.{Readied, bare_still, readied_ready, ready_readied}
 use Rattle.pnp_laws.proofs.Reaching.{kept}
 use Rattle.pnp_laws.proofs.ReadyEffects.{bare_was, shut_was, waited}
-use Rattle.pnp_laws.proofs.ReadySteps.{IsLeft, ReadySeen, answered_left, ready_operation, turn_left}
+use Rattle.pnp_laws.proofs.ReadySteps.{IsLeft, LeftIn, ReadySeen, walked_left, ready_operation, turn_left}
 use Rattle.pnp_laws.proofs.Runs.{root_is}
 use Rattle.pnp_laws.proofs.RunsStand.{reaches_kept}
-use Rattle.pnp_laws.proofs.Stages.{operation_step}
+use Rattle.pnp_laws.proofs.Stages.{operation_step, own_step}
 use Rattle.pnp_laws.proofs.Standing.{Kept}
 use Rattle.pnp_laws.proofs.Turns.{running_good}
 use Rattle.pnp_laws.proofs.TurnsKept.{running_stage, running_told}
@@ -33,27 +37,22 @@ Seen s = ReadySeen s.tasks s.handles s.operation s.core
 
 -- Neither runs -------------------------------------------------------------------------------------------
 
-none_left : (o : Option Operation) (k : ℕ) → NeitherRuns o → IsLeft o k → ⊥
+none_left : (o : Option Job) (k : ℕ) → NeitherRuns o → IsLeft o k → ⊥
 none_left None k neither left = left
-none_left (Some (Operation.Rebalancing r)) k neither left = left
-none_left (Some (Operation.Removing o)) k neither left = left
-none_left (Some (Operation.Surprising o)) k neither left = neither
-none_left (Some (Operation.Finishing f)) k neither left = neither
+none_left (Some o) k neither left = by_course (course_of o.kind) neither left
+  where
+    by_course : (course : Course) → IsNeither course → LeftIn course o k → ⊥
+    by_course Course.Surprising neither left = neither
+    by_course Course.Finishing neither left = neither
+    by_course _ neither left = left
 
-finishing_left : (o : Option Operation) (k : ℕ) → IsFinishing o → IsLeft o k
-finishing_left None k h = h
-finishing_left (Some (Operation.Rebalancing r)) k h = h
-finishing_left (Some (Operation.Removing o)) k h = h
-finishing_left (Some (Operation.Surprising o)) k h = absurd h
-finishing_left (Some (Operation.Finishing f)) k h = tt
+finishing_left : (o : Option Job) (k : ℕ) → IsFinishing o → IsLeft o k
+finishing_left None k h = absurd h
+finishing_left (Some o) k h = subst (λ (x : Course). LeftIn x o k) (sym h) tt
 
 -- where one of them runs, one still runs when the next device is taken
-either_taken : (s : State) (o p : Operation) → Turn s o p → (NeitherRuns (Some o) → ⊥) → NeitherRuns (Some p) → ⊥
-either_taken s _ _ (Turn.same o) either h = either h
-either_taken s _ _ (Turn.queries o node is first asks) either h = either tt
-either_taken s _ _ (Turn.removes o node d ds is first goes full) either h = h
-either_taken s _ _ (Turn.settles o node is first goes none) either h = h
-either_taken s _ _ (Turn.finishes f k node is ready at) either h = h
+either_taken : (s : State) (o p : Job) → Turn s o p → (NeitherRuns (Some o) → ⊥) → NeitherRuns (Some p) → ⊥
+either_taken s o p turn either h = either (subst (λ (x : OpKind). IsNeither (course_of x)) (turn_work s o p turn).kind h)
 
 still_due : (t : State) (k : ℕ) → StaysDue t k → (is_to_finish t.tasks k ≡ true) ⊎ IsLeft t.operation k
 still_due t k (inl due) = inl due
@@ -84,12 +83,12 @@ module _ (settings : Settings) (s : State) (was : Kept s) (seen : Seen s) where
 
   -- One of them runs --------------------------------------------------------------------------------------
 
-  module _ (o : Operation) (runs : s.operation ≡ Some o) where
-    seen_by : (p : Operation) → Running s p → ReadySeen s.tasks s.handles (Some p) s.core
+  module _ (o : Job) (runs : s.operation ≡ Some o) where
+    seen_by : (p : Job) → Running s p → ReadySeen s.tasks s.handles (Some p) s.core
     seen_by p running k n at ready =
         elim (seen k n at ready) [
           | inl due ↦ inl due
-          | inr left ↦ inr (turn_left s running.before p k running.turn (subst (λ (x : Option Operation). IsLeft x k) running.runs left))
+          | inr left ↦ inr (turn_left s running.before p k running.turn (subst (λ (x : Option Job). IsLeft x k) running.runs left))
         ]
 
     step_goes : (label : Label) (t : State) → Goes settings s (Did label) t → (NeitherRuns (Some o) → ⊥) → Seen t
@@ -98,7 +97,7 @@ module _ (settings : Settings) (s : State) (was : Kept s) (seen : Seen s) where
         let taken = operation_step settings s o (record { label = label; state = t }) runs goes in
         let running : Running s taken.now = record { before = o; runs = runs; turn = taken.turn } in
         let after = ready_operation s taken.now (record { label = label; state = t }) (running_good s taken.now running was.good) was.stands.tree (running_stage s taken.now running was) (running_told s taken.now running was) (either_taken s o taken.now taken.turn either)
-        (seen_by taken.now running) taken.is in
+        (seen_by taken.now running) (own_step s taken.now (record { label = label; state = t }) (running_good s taken.now running was.good).fits taken.is) in
         elim (after k m now (record { state = ready.state; shut = subst (λ (hs : List Handle). is_open hs k ≡ false) (steps_handles s label t effect.handles) ready.shut; bare = ready.bare })) [
           | inl due ↦ inl (running_on s t o k runs effect.tasks due)
           | inr left ↦ inr left
@@ -113,16 +112,16 @@ module _ (settings : Settings) (s : State) (was : Kept s) (seen : Seen s) where
           | inl shut ↦
               elim (seen k m at (record { state = ready.state; shut = shut; bare = bare_still s.core t.core k nodes (relations_stay s label t o word runs effect.nodes) ready.bare })) [
                 | inl due ↦ inl (command_on s t k effect.tasks due)
-                | inr left ↦ inr (left_on k (subst (λ (x : Option Operation). IsLeft x k) runs left))
+                | inr left ↦ inr (left_on k (subst (λ (x : Option Job). IsLeft x k) runs left))
               ]
         ]
 
     event_seen : (event : Event) (label : Label) (t : State) → Effect s (Happens event label) t → AnswerEffect s label t → Seen t
-    event_seen event label t effect (AnswerEffect.stays word nodes acts now) = stays_seen event label t effect word nodes (λ k left. subst (λ (x : Option Operation). IsLeft x k) (sym (now ∙ runs)) left)
-    event_seen event label t effect (AnswerEffect.answers word nodes j a ok at acts now) = stays_seen event label t effect word nodes (λ k left. subst (λ (x : Option Operation). IsLeft x k) (sym (now ∙ runs)) left)
+    event_seen event label t effect (AnswerEffect.stays word nodes acts now) = stays_seen event label t effect word nodes (λ k left. subst (λ (x : Option Job). IsLeft x k) (sym (now ∙ runs)) left)
+    event_seen event label t effect (AnswerEffect.answers word nodes j a ok at acts now) = stays_seen event label t effect word nodes (λ k left. subst (λ (x : Option Job). IsLeft x k) (sym (now ∙ runs)) left)
     event_seen event label t effect (AnswerEffect.answered word nodes acts ok p own now) =
         stays_seen event label t effect word nodes
-        (λ k left. subst (λ (x : Option Operation). IsLeft x k) (sym now) (answered_left (answer_of ok) p k (subst (λ (x : Option Operation). IsLeft x k) (sym runs ∙ own) left)))
+        (λ k left. subst (λ (x : Option Job). IsLeft x k) (sym now) (walked_left p (option_map (λ w. after w (answer_of ok)) p.walk) k (subst (λ (x : Option Job). IsLeft x k) (sym runs ∙ own) left)))
 
     runs_goes : (entry : Entry) (t : State) → Goes settings s entry t → (NeitherRuns (Some o) → ⊥) → Seen t
     runs_goes (Happens event label) t goes either = let effect = effect_goes settings s (Happens event label) t goes in event_seen event label t effect effect.operation
@@ -132,12 +131,15 @@ module _ (settings : Settings) (s : State) (was : Kept s) (seen : Seen s) where
 seen_goes : (settings : Settings) (s : State) (entry : Entry) (t : State) → Kept s → Goes settings s entry t → Seen s → Seen t
 seen_goes settings s entry t was goes seen = by_operation s.operation refl
   where
-    by_operation : (o : Option Operation) → s.operation ≡ o → Seen t
-    by_operation None e = beside_goes settings s was seen entry t goes (subst (λ (x : Option Operation). NeitherRuns x) (sym e) tt)
-    by_operation (Some (Operation.Rebalancing r)) e = beside_goes settings s was seen entry t goes (subst (λ (x : Option Operation). NeitherRuns x) (sym e) tt)
-    by_operation (Some (Operation.Removing o)) e = beside_goes settings s was seen entry t goes (subst (λ (x : Option Operation). NeitherRuns x) (sym e) tt)
-    by_operation (Some (Operation.Surprising o)) e = runs_goes settings s was seen (Operation.Surprising o) e entry t goes (λ h. h)
-    by_operation (Some (Operation.Finishing f)) e = runs_goes settings s was seen (Operation.Finishing f) e entry t goes (λ h. h)
+    by_operation : (o : Option Job) → s.operation ≡ o → Seen t
+    by_operation None e = beside_goes settings s was seen entry t goes (subst (λ (x : Option Job). NeitherRuns x) (sym e) tt)
+    by_operation (Some o) e = by_course (course_of o.kind) refl
+      where
+        by_course : (course : Course) → course_of o.kind ≡ course → Seen t
+        by_course Course.Surprising course = runs_goes settings s was seen o e entry t goes (λ h. subst (λ (x : Course). IsNeither x) course h)
+        by_course Course.Finishing course = runs_goes settings s was seen o e entry t goes (λ h. subst (λ (x : Course). IsNeither x) course h)
+        by_course Course.Rebalancing course = beside_goes settings s was seen entry t goes (subst (λ (x : Option Job). NeitherRuns x) (sym e) (subst (λ (x : Course). IsNeither x) (sym course) tt))
+        by_course Course.Removing course = beside_goes settings s was seen entry t goes (subst (λ (x : Option Job). NeitherRuns x) (sym e) (subst (λ (x : Course). IsNeither x) (sym course) tt))
 
 -- the root alone does not wait
 opening_seen : (rack : List Driver) → Seen (opening rack)

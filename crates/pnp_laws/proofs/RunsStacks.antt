@@ -83,8 +83,8 @@ module _ (s t : State) (order : InOrder 0 s.activities) where
 
   entered_adds : (k : ℕ) (phase : Phase) → Enters s k t phase → Remains s k (phase_drivers phase)
   entered_adds k phase (Enters.installs drivers chosen drops clears) = remains_is k drivers (phase_drivers (adding drivers)) (sym (adding_all drivers)) (Remains.installs drivers chosen)
-  entered_adds k phase (Enters.restarts r plan runs plain is target found nodes) = Remains.nothing
-  entered_adds k phase (Enters.undoes r runs plain target) = Remains.nothing
+  entered_adds k phase (Enters.restarts r plan runs course plain is target found nodes) = Remains.nothing
+  entered_adds k phase (Enters.undoes r runs course plain target) = Remains.nothing
 
   gone_adds : (k : ℕ) (old new : Phase) → PhaseStep s k t old new → Remains s k (phase_drivers new)
   gone_adds k _ _ (PhaseStep.added d ds acts) = remains_is k ds (phase_drivers (adding ds)) (sym (adding_all ds)) (Remains.added d ds (acting_adds s k (Adding (d ∷ ds)) order acts))
@@ -113,7 +113,7 @@ by_origin s label t k _ (Origin.was n at) = From.was n at refl (inl refl)
 by_origin s label t k _ (Origin.walked n minor w bad at request other ends verdict prints) = From.was n at refl (inl refl)
 by_origin s label t k _ (Origin.troubled n problem at) = From.was n at refl (inl refl)
 by_origin s label t k _ (Origin.assigned n phase plan at acts search part now) = From.was n at refl (inl refl)
-by_origin s label t k _ (Origin.commits r n runs is at) = From.was n at refl (inl refl)
+by_origin s label t k _ (Origin.commits r n runs course is at) = From.was n at refl (inl refl)
 
 -- A step or an event --------------------------------------------------------------------------------
 

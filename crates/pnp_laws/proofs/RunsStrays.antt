@@ -12,18 +12,18 @@ use Rattle.pnp_model.specs.Cores.{bare, node_at, serials_of}
 use Rattle.pnp_model.specs.Diagram.{FollowsDiagram}
 use Rattle.pnp_model.specs.Laws.{DependentsFirst, Reaches}
 use Rattle.pnp_model.specs.Rebalances.{committed, movers, plan_of}
-use Rattle.pnp_model.specs.Records.{Activity, Driver, Duty, Node, Operation, Settings, State, Step, Surprise, SurpriseStage, Task}
+use Rattle.pnp_model.specs.Records.{Activity, Course, Driver, Duty, Job, Node, Settings, Stage, State, Step, Task, course_of}
 use Rattle.pnp_model.specs.Runs.{Entry, Goes, opening, printed}
 use Rattle.pnp_model.specs.Runs.Entry.{Happens, Did, Declines}
 use Rattle.pnp_model.specs.States.{activity_at, entered, new_child}
 use Rattle.pnp_model.specs.Tests.{has}
 use Rattle.pnp_model.specs.Trees.{above, children, is_child, leaving, set_of, stands_up}
 use Rattle.pnp_laws.specs.Due.{is_due, leads}
-use Rattle.pnp_laws.specs.Effects.{AnswerEffect, Closes, ClosesRebalance, CommandEffect, NodeEffect, OpEffect, OperationEffect, Running, TaskEffect, TasksEffect, to_leave}
+use Rattle.pnp_laws.specs.Effects.{AnswerEffect, Closes, ClosesIn, ClosesRebalance, CommandEffect, NodeEffect, OpEffect, OperationEffect, Running, TaskEffect, TasksEffect, to_leave}
 use Rattle.pnp_laws.specs.Kept.{Ascending, OperationFits, RebalanceKeeps, SurpriseKeeps}
 use Rattle.pnp_laws.specs.Reached.{IsReached}
 use Rattle.pnp_laws.specs.Strays.{IsStray, StraysLaw}
-use Rattle.pnp_laws.specs.Words.{spared}
+use Rattle.pnp_laws.specs.Words.{spared, spared_in}
 use Rattle.pnp_laws.proofs.Aboves.{due_below, due_more, is_above_in}
 use Rattle.pnp_laws.proofs.Closures.{closed_keeps, those_serial}
 use Rattle.pnp_laws.proofs.Due.{below_in_set}
@@ -41,13 +41,14 @@ use Rattle.pnp_laws.proofs.Runs.{root_is}
 use Rattle.pnp_laws.proofs.RunsStand.{Kept, dependents_go_first, every_run_follows, reaches_kept}
 use Rattle.pnp_laws.proofs.RunsWhole.{reached_is_whole}
 use Rattle.pnp_laws.proofs.Sounds.{LeadsMore, leads_first, leads_pushed, leads_same, due_less}
-use Rattle.pnp_laws.proofs.Standing.{AllTold, DueBut, SurpriseOrder, SurpriseTold, ToldKept, waiting}
+use Rattle.pnp_laws.proofs.Standing.{AllTold, DueBut, SurpriseOrder, SurpriseTold, ToldKept, waiting, kept_by, told_by}
 use Rattle.pnp_laws.proofs.SurpriseSteps.{last_alone}
 use Rattle.pnp_laws.proofs.TreeChanges.{SameNodes, above_same, nodes_kept}
 use Rattle.pnp_laws.proofs.TreeMoves.{Childless, above_joined, above_left}
 use Rattle.pnp_laws.proofs.Turns.{running_good}
 use Rattle.pnp_laws.proofs.TurnsKept.{running_stage, running_told}
 use Rattle.pnp_laws.proofs.StrayMoves.{From, Seen, from, none_from, over_none, spared_by, unplaced_now}
+use Rattle.pnp_laws.proofs.FitsBy.{fits_by, rebalance_fits}
 
 -- Who stands above -----------------------------------------------------------------------------------
 
@@ -75,7 +76,7 @@ above_stays s label t kept first follows (NodeEffect.changed j f alters a b) k n
     above_same s.core.nodes t.core.nodes (nodes_kept s.core.nodes t.core.nodes j f a (alters_keeps s label t j f alters).serial (alters_keeps s label t j f alters).parent) k
 above_stays s label t kept first follows (NodeEffect.stripped node w there request ends prints a b) k n m at now =
     above_same s.core.nodes t.core.nodes (nodes_kept s.core.nodes t.core.nodes node.serial bare a (λ x. refl) (λ x. refl)) k
-above_stays s label t kept first follows (NodeEffect.commits r runs is a b) k n m at now =
+above_stays s label t kept first follows (NodeEffect.commits r runs course is a b) k n m at now =
     above_same s.core.nodes t.core.nodes (nodes_mapped s.core.nodes t.core.nodes (committed r.wanted r.target (movers r) (plan_of r.found)) a (λ x. refl) (λ x. refl)) k
 above_stays s label t kept first follows (NodeEffect.joins node d none there up joining is) k n m at now =
     ap (λ (x : Step). above x.state.core.nodes k) is ∙ above_joined k s.core (new_child node.serial d s) kept.stands.tree.rooted kept.stands.tree.root k n at
@@ -138,7 +139,7 @@ module _ (s t : State) (was : Kept s) (now : Kept t) (k : ℕ) (n m : Node) (at 
         | inl e ↦ let same = some_same (node_at k s.core.nodes) n node at (subst (λ (i : ℕ). node_at i s.core.nodes ≡ Some node) (sym e) at_j) in let state = ap (λ (x : Node). x.state) same in cc
         | inr q ↦
             let tree = was.stands.tree in
-            let told = subst (λ (x : Option Operation). ToldKept x s.core) none was.waits.told in
+            let told = subst (λ (x : Option Job). ToldKept x s.core) none was.waits.told in
             above_told k s.core k j n tree.root tree.rooted told at (λ e. cc) q node at_j gone
       ]
 
@@ -156,11 +157,11 @@ module _ (s t : State) (was : Kept s) (now : Kept t) (k : ℕ) (n m : Node) (at 
             | inr (node, found, begun) ↦
                 let own = own_serial task.serial node s.core.nodes found in
                 let leaves = subst (λ (i : ℕ). has (leaving s.core i) k ≡ true) (sym own) (leaves_with task.serial node found below) in
-                inr (subst (λ (o : Option Operation). has (spared_by o) k ≡ true) (sym begun) (subst (λ (ks : List ℕ). has ks k ≡ true) (sym (begun_spared s.core node)) leaves))
+                inr (subst (λ (o : Option Job). has (spared_by o) k ≡ true) (sym begun) (subst (λ (ks : List ℕ). has ks k ≡ true) (sym (begun_spared s.core node)) leaves))
           ]
         ]
       ]
-  due_task (TaskEffect.put_first node r runs is first e) h =
+  due_task (TaskEffect.put_first node r runs course is first e) h =
       due_on (subst (λ (ts : List Task). LeadsMore s.tasks ts) (sym e) (leads_first s.tasks (record { kind = Duty.Begins OpKind.Surprise; serial = node.serial }) refl)) h
 
   -- who is left when a surprise removal ends has no drivers, or stayed behind
@@ -171,16 +172,16 @@ module _ (s t : State) (was : Kept s) (now : Kept t) (k : ℕ) (n m : Node) (at 
       by_test true e = let state = stayed k n e at in cc
       by_test false e = let state = bare e in cc
 
-  surprise_ends : (o : Surprise) → Running s (Operation.Surprising o) → Closes s (Operation.Surprising o) t → has o.set k ≡ true → ⊥
-  surprise_ends o runs (inl is) in_set =
-      let stage = running_stage s (Operation.Surprising o) runs was in
-      let told = subst (λ (x : SurpriseStage). SurpriseTold s.core o x) is (running_told s (Operation.Surprising o) runs was) in
-      left_bare o.behind told.stayed (λ none. (subst (λ (x : SurpriseStage). SurpriseOrder s.core o x) is stage.0).bare k n at in_set refl none)
-  surprise_ends o runs (inr (is, node, first, last)) in_set =
-      let stage = running_stage s (Operation.Surprising o) runs was in
-      let told = subst (λ (x : SurpriseStage). SurpriseTold s.core o x) is (running_told s (Operation.Surprising o) runs was) in
-      let order = (subst (λ (x : SurpriseStage). SurpriseOrder s.core o x) is stage.0).0 in
-      let keeps = subst (λ (x : SurpriseStage). SurpriseKeeps o x s.core.nodes) is (running_good s (Operation.Surprising o) runs was.good).fits in
+  surprise_ends : (o : Job) → Running s o → course_of o.kind ≡ Course.Surprising → ClosesIn s o t Course.Surprising → has o.set k ≡ true → ⊥
+  surprise_ends o runs course (inl is) in_set =
+      let stage = kept_by Course.Surprising o s.core course (running_stage s o runs was) in
+      let told = subst (λ (x : Stage). SurpriseTold s.core o x) is (told_by Course.Surprising o s.core course (running_told s o runs was)) in
+      left_bare o.behind told.stayed (λ none. (subst (λ (x : Stage). SurpriseOrder s.core o x) is stage.0).bare k n at in_set refl none)
+  surprise_ends o runs course (inr (is, node, first, last)) in_set =
+      let stage = kept_by Course.Surprising o s.core course (running_stage s o runs was) in
+      let told = subst (λ (x : Stage). SurpriseTold s.core o x) is (told_by Course.Surprising o s.core course (running_told s o runs was)) in
+      let order = (subst (λ (x : Stage). SurpriseOrder s.core o x) is stage.0).0 in
+      let keeps = subst (λ (x : Stage). SurpriseKeeps o x s.core.nodes) is (fits_by Course.Surprising o s.core.nodes course (running_good s o runs was.good).fits) in
       let head = (head_found s.core.nodes o.todo node first).0 in
       let none = last_alone o.target o.todo (subst (λ (i : ℕ). HeadIs i o.todo) last head) keeps.ends in
       elim (cases_eq node.serial k) [
@@ -192,26 +193,26 @@ module _ (s t : State) (was : Kept s) (now : Kept t) (k : ℕ) (n m : Node) (at 
   below_down : t.operation ≡ None → stands_up t.core.nodes k ≡ false → is_due t.tasks t.core.nodes k ≡ true
   below_down none down =
       let tree = now.stands.tree in
-      let calm = subst (λ (x : Option Operation). OperationFits x t.core.nodes) none now.good.fits in
-      let told = subst (λ (x : Option Operation). ToldKept x t.core) none now.waits.told in
+      let calm = subst (λ (x : Option Job). OperationFits x t.core.nodes) none now.good.fits in
+      let told = subst (λ (x : Option Job). ToldKept x t.core) none now.waits.told in
       let high = over_stopped t.core k m tree.root tree.rooted tree.idle calm told (λ e. cc) there up down in
-      elim (subst (λ (x : Option Operation). DueBut (waiting x) t.tasks t.core.nodes) none now.stands.due high.0 high.1 high.4 high.5) [
+      elim (subst (λ (x : Option Job). DueBut (waiting x) t.tasks t.core.nodes) none now.stands.due high.0 high.1 high.4 high.5) [
         | inl q ↦ due_below t.tasks t.core k high.0 m tree.root tree.rooted there up high.2 q
         | inr q ↦ absurd (cc)
       ]
 
   module _ (idle : activity_at k s.activities ≡ None) (still : activity_at k t.activities ≡ None) where
-    ends_spared : (o : Operation) → Running s o → t.operation ≡ None → Closes s o t → has (spared o) k ≡ true → IsSeen t k
-    ends_spared (Operation.Rebalancing r) running none closes h = by_end r.wanted refl closes (target_is h)
+    rebalance_ends : (r : Job) → Running s r → course_of r.kind ≡ Course.Rebalancing → t.operation ≡ None → ClosesIn s r t Course.Rebalancing → has (r.target ∷ []) k ≡ true → IsSeen t k
+    rebalance_ends r running course none closes h = by_end r.wanted refl closes (target_is h)
       where
-        runs : s.operation ≡ Some (Operation.Rebalancing r)
-        runs = rebalance_runs s r running
+        runs : s.operation ≡ Some r
+        runs = rebalance_runs s r course running
 
         target_is : has (r.target ∷ []) k ≡ true → r.target ≡ k
         target_is q = elim (has_cases r.target k [] q) [ inl e ↦ e | inr none ↦ absurd (cc) ]
 
         fits : RebalanceKeeps r r.stage s.core.nodes
-        fits = subst (λ (x : Option Operation). OperationFits x s.core.nodes) runs was.good.fits
+        fits = rebalance_fits s r was.good runs course
 
         by_end : (wanted : Option Reqs) → r.wanted ≡ wanted → ClosesRebalance s r t wanted → r.target ≡ k → IsSeen t k
         by_end (Some wanted) changes closed own = absurd (change_up r.wanted r.target s.core.nodes n (ap is_some changes) fits.waits (subst (λ (i : ℕ). node_at i s.core.nodes ≡ Some n) (sym own) at) waits)
@@ -220,25 +221,32 @@ module _ (s t : State) (was : Kept s) (now : Kept t) (k : ℕ) (n m : Node) (at 
             let found : activity_at r.target (entered new s.activities) ≡ Some new = entered_same new s.activities (subst (λ (i : ℕ). activity_at i s.activities ≡ None) (sym own) idle) in
             absurd (let here = subst (λ (i : ℕ). activity_at i t.activities ≡ Some new) own (subst (λ (x : List Activity). activity_at r.target x ≡ Some new) (sym e) found) in cc)
         by_end None plain (inr down) own = inl (below_down none (subst (λ (i : ℕ). stands_up t.core.nodes i ≡ false) own down))
-    ends_spared (Operation.Surprising o) runs none closes h = absurd (surprise_ends o runs closes h)
-    ends_spared _ runs none closes h = absurd (cc)
+
+    ends_spared : (o : Job) → Running s o → t.operation ≡ None → Closes s o t → has (spared o) k ≡ true → IsSeen t k
+    ends_spared o running none closes h = by_course (course_of o.kind) refl closes h
+      where
+        by_course : (course : Course) → course_of o.kind ≡ course → ClosesIn s o t course → has (spared_in o course) k ≡ true → IsSeen t k
+        by_course Course.Rebalancing course closes h = rebalance_ends o running course none closes h
+        by_course Course.Surprising course closes h = absurd (surprise_ends o running course closes h)
+        by_course Course.Removing course closes h = absurd (cc)
+        by_course Course.Finishing course closes h = absurd (cc)
 
     spared_on : (label : Label) → OpEffect s label t → has (spared_by s.operation) k ≡ true → IsSeen t k
-    spared_on label (OpEffect.idles none after prints) h = absurd (let q = subst (λ (x : Option Operation). has (spared_by x) k ≡ true) none h in cc)
-    spared_on label (OpEffect.begins kind node none alone found fits is) h = absurd (let q = subst (λ (x : Option Operation). has (spared_by x) k ≡ true) none h in cc)
+    spared_on label (OpEffect.idles none after prints) h = absurd (let q = subst (λ (x : Option Job). has (spared_by x) k ≡ true) none h in cc)
+    spared_on label (OpEffect.begins kind node none alone found fits is) h = absurd (let q = subst (λ (x : Option Job). has (spared_by x) k ≡ true) none h in cc)
     spared_on label (OpEffect.goes o p runs after work prints) h =
-        inr (subst (λ (x : Option Operation). has (spared_by x) k ≡ true) (sym after)
-        (subst (λ (ks : List ℕ). has ks k ≡ true) (sym work.spared) (subst (λ (x : Option Operation). has (spared_by x) k ≡ true) runs h)))
+        inr (subst (λ (x : Option Job). has (spared_by x) k ≡ true) (sym after)
+        (subst (λ (ks : List ℕ). has ks k ≡ true) (sym work.spared) (subst (λ (x : Option Job). has (spared_by x) k ≡ true) runs h)))
     spared_on label (OpEffect.ends o result runs after prints by closes) h =
         ends_spared o runs after closes
-        (subst (λ (ks : List ℕ). has ks k ≡ true) (sym (turn_work s runs.before o runs.turn).spared) (subst (λ (x : Option Operation). has (spared_by x) k ≡ true) runs.runs h))
+        (subst (λ (ks : List ℕ). has ks k ≡ true) (sym (turn_work s runs.before o runs.turn).spared) (subst (λ (x : Option Job). has (spared_by x) k ≡ true) runs.runs h))
 
     spared_after : (label : Label) → AnswerEffect s label t → has (spared_by s.operation) k ≡ true → IsSeen t k
-    spared_after label (AnswerEffect.stays word nodes acts after) h = inr (subst (λ (x : Option Operation). has (spared_by x) k ≡ true) (sym after) h)
-    spared_after label (AnswerEffect.answers word nodes j a ok found acts after) h = inr (subst (λ (x : Option Operation). has (spared_by x) k ≡ true) (sym after) h)
+    spared_after label (AnswerEffect.stays word nodes acts after) h = inr (subst (λ (x : Option Job). has (spared_by x) k ≡ true) (sym after) h)
+    spared_after label (AnswerEffect.answers word nodes j a ok found acts after) h = inr (subst (λ (x : Option Job). has (spared_by x) k ≡ true) (sym after) h)
     spared_after label (AnswerEffect.answered word nodes acts ok o runs after) h =
-        inr (subst (λ (x : Option Operation). has (spared_by x) k ≡ true) (sym after)
-        (subst (λ (ks : List ℕ). has ks k ≡ true) (sym (completed_work (answer_of ok) o).spared) (subst (λ (x : Option Operation). has (spared_by x) k ≡ true) runs h)))
+        inr (subst (λ (x : Option Job). has (spared_by x) k ≡ true) (sym after)
+        (subst (λ (ks : List ℕ). has ks k ≡ true) (sym (completed_work (answer_of ok) o).spared) (subst (λ (x : Option Job). has (spared_by x) k ≡ true) runs h)))
 
     seen_on : (entry : Entry) → TasksEffect s entry t → OperationEffect s entry t → IsSeen s k → IsSeen t k
     seen_on (Happens event label) tasks operation (inl h) = due_on (command_leads s t tasks) h
@@ -268,7 +276,7 @@ seen_goes settings rack s entry t (entries, run) old goes =
       | From.unchanged n at state holds ↦ carry k n m at there (state stray.waits) stray.waits idle stray.idle (old.strays k n at (record { waits = state stray.waits; holds = λ e. stray.holds (holds ∙ e); idle = idle }))
       | From.emptied none ↦ absurd (stray.holds none)
       | From.placed a found past ↦ absurd (let none = stray.idle in cc)
-      | From.moved o n runs at waits ↦ let own = waits stray.waits in carry k n m at there own.0 stray.waits idle stray.idle (inr (subst (λ (x : Option Operation). has (spared_by x) k ≡ true) (sym runs) own.1))
+      | From.moved o n runs at waits ↦ let own = waits stray.waits in carry k n m at there own.0 stray.waits idle stray.idle (inr (subst (λ (x : Option Job). has (spared_by x) k ≡ true) (sym runs) own.1))
     ] in
     record {
       unplaced = unplaced_now s (printed entry) t was.good whole effect.nodes effect.activities old;
@@ -293,12 +301,12 @@ each_stray_is_seen settings rack entries s run = kept Seen settings rack (seen_g
 pub nobody_is_forgotten : StraysLaw
 nobody_is_forgotten settings rack entries s run none =
     let seen = each_stray_is_seen settings rack entries s run in
-    let due = subst (λ (x : Option Operation). DueBut (waiting x) s.tasks s.core.nodes) none (reaches_kept settings rack entries s run).stands.due in
+    let due = subst (λ (x : Option Job). DueBut (waiting x) s.tasks s.core.nodes) none (reaches_kept settings rack entries s run).stands.due in
     record {
       stopped = λ k n at e. elim (due k n at e) [ inl q ↦ q | inr q ↦ absurd (cc) ];
       strays = λ k n at stray.
           elim (seen.strays k n at stray) [
             | inl q ↦ q
-            | inr q ↦ absurd (let left = subst (λ (x : Option Operation). has (spared_by x) k ≡ true) none q in cc)
+            | inr q ↦ absurd (let left = subst (λ (x : Option Job). has (spared_by x) k ≡ true) none q in cc)
           ];
     }

@@ -4,37 +4,33 @@ use Rattle.pnp_labels.specs.Texts.{Text}
 use Rattle.pnp_labels.specs.declared.label.Label.{Label}
 use Rattle.pnp_labels.specs.declared.states.DevState.{DevState}
 use Rattle.pnp_labels.specs.declared.words.Minor.{Minor}
+use Rattle.std.specs.List.{slice_get}
 use Rattle.std.specs.Option.{option_map}
 use Rattle.pnp_model.specs.Cores.{node_at}
 use Rattle.pnp_model.specs.States.{is_activity}
 use Rattle.pnp_model.specs.Diagram.{Row}
-use Rattle.pnp_model.specs.Events.{front, operation_at}
 use Rattle.pnp_model.specs.Frames.{first_node}
 use Rattle.pnp_model.specs.Machine.{phase_walk}
-use Rattle.pnp_model.specs.Records.{Node, Operation, Phase, State, Walk}
+use Rattle.pnp_model.specs.Records.{Node, Phase, State, Walk}
 use Rattle.pnp_model.specs.Records.Phase.{Starting, Removing}
 use Rattle.pnp_model.specs.Runs.{Entry, printed}
 use Rattle.pnp_model.specs.Walks.{has_ended, is_bad, may_fail, state_after}
-use Rattle.pnp_laws.specs.Effects.{Acting, DriverEffect, IsUnasked, OperationOwn, PhaseOwn, Request, operation_minor, phase_minor, todo_of}
+use Rattle.pnp_laws.specs.Effects.{Acting, DriverEffect, IsUnasked, PhaseOwn, Request, phase_minor}
 use Rattle.pnp_laws.specs.Kept.{IsGood}
 use Rattle.pnp_laws.specs.Told.{ChangesAt, IsWalkOf, StatesLaw}
 use Rattle.pnp_laws.proofs.Asked.{Rows, request_rows}
 use Rattle.pnp_laws.proofs.EffectsOf.{effect_goes}
 use Rattle.pnp_laws.proofs.EffectViews.{Turns, acting_at, state_from}
 use Rattle.pnp_laws.proofs.Lookups.{own_serial, some_same}
-use Rattle.pnp_laws.proofs.Minors.{HasOwn, RunsOwn, reaches_own}
+use Rattle.pnp_laws.proofs.Minors.{HasOwn, reaches_own}
 use Rattle.pnp_laws.proofs.Phases.{phase_found}
 use Rattle.pnp_laws.proofs.WalkEnds.{ended_runs}
 use Rattle.pnp_laws.proofs.RunsStand.{Kept, reaches_kept}
 
 -- the first device of an operation
-front_is : (nodes : List Node) (todo : List ℕ) (node : Node) → first_node nodes todo ≡ Some node → front todo ≡ Some node.serial
+front_is : (nodes : List Node) (todo : List ℕ) (node : Node) → first_node nodes todo ≡ Some node → slice_get todo 0 ≡ Some node.serial
 front_is nodes [] node e = absurd (cc)
 front_is nodes (k ∷ ks) node e = ap Some (sym (own_serial k node nodes e))
-
-operation_front : (o : Operation) → operation_at o ≡ front (todo_of o)
-operation_front (Operation.Rebalancing o) = refl
-operation_front _ = refl
 
 -- a request is on its way to its device
 record UnderWay (s : State) (node : Node) (minor : Minor) (w : Walk) : Type 0 where
@@ -46,7 +42,7 @@ module _ (s : State) (good : IsGood s) (owns : HasOwn s) (node : Node) (there : 
   by_start : (phase : Phase) (w : Walk) (minor : Minor) → Acting s node.serial phase → phase_walk phase ≡ Some w → phase_minor phase ≡ Some minor → UnderWay s node minor w
   by_start phase w minor acts walk is =
       let here = acting_at s node.serial phase good.order acts in
-      let own : PhaseOwn phase = subst PhaseOwn here.is (phase_found PhaseOwn (is_activity node.serial) s.activities here.activity here.at owns.starts) in
+      let own : PhaseOwn phase = subst PhaseOwn here.is (phase_found PhaseOwn (is_activity node.serial) s.activities here.activity here.at owns) in
       let of_walk : Some w.minor ≡ phase_minor phase = ap (λ (o : Option Walk). option_map (λ (v : Walk). v.minor) o) (sym walk) ∙ own in
       record {
         walk = IsWalkOf.starts here.activity acts.none here.at (ap phase_walk here.is ∙ walk);
@@ -56,16 +52,9 @@ module _ (s : State) (good : IsGood s) (owns : HasOwn s) (node : Node) (there : 
   under_way : (minor : Minor) (w : Walk) → Request s node minor w → has_ended w (length node.stack) ≡ true → UnderWay s node minor w
   under_way _ _ (Request.starts w acts) ends = by_start (Starting w) w Minor.Start acts refl refl
   under_way _ _ (Request.undoes w acts) ends = by_start (Removing w) w Minor.Remove acts refl refl
-  under_way _ _ (Request.operates minor w asks) ends =
+  under_way _ _ (Request.operates w asks) ends =
       let runs = ended_runs s asks.operation node w good asks.runs asks.first asks.walk ends in
-      let at_front : operation_at asks.operation ≡ Some node.serial = operation_front asks.operation ∙ front_is s.core.nodes (todo_of asks.operation) node asks.first in
-      let own : OperationOwn asks.operation = subst RunsOwn runs owns.operation in
-      let of_walk : Some w.minor ≡ operation_minor asks.operation = ap (λ (o : Option Walk). option_map (λ (v : Walk). v.minor) o) (sym asks.walk) ∙ own in
-      let minor_is = asks.minor_is in
-      record {
-        walk = IsWalkOf.operates asks.operation runs at_front asks.walk;
-        own = cc;
-      }
+      record { walk = IsWalkOf.operates asks.operation runs (front_is s.core.nodes asks.operation.todo node asks.first) asks.walk; own = refl }
 
 -- how a request ended is how its walk did
 ends_by_walk : (w : Walk) (minor : Minor) → w.minor ≡ minor → (may_fail minor && is_bad w) ≡ is_bad w

@@ -1,6 +1,6 @@
 -- A veto restores, in each run.
-use Rattle.std.proofs.Common.{ℕ, ◌≡◌, inl, inr, Bool, false, List, Option, Some, None, refl, sym, ap, ◌∙◌, subst}
-use Rattle.pnp_model.specs.Records.{Node, Core, Driver, State, Step, Settings, Operation}
+use Rattle.std.proofs.Common.{ℕ, ◌≡◌, inl, inr, Bool, false, List, [], ◌∷◌, Some, refl, sym, ap, ◌∙◌, subst}
+use Rattle.pnp_model.specs.Records.{Node, Core, Driver, State, Step, Settings, Job, course_of, Course}
 use Rattle.pnp_model.specs.Trees.{leaving}
 use Rattle.pnp_model.specs.Removals.{begun_removal, end_of}
 use Rattle.pnp_model.specs.Tasks.{begin}
@@ -21,6 +21,7 @@ use Rattle.pnp_laws.proofs.Courses.{Way, way_goes}
 use Rattle.pnp_laws.proofs.BeginSteps.{Begun, begins_right, reached_fine}
 use Rattle.pnp_laws.proofs.Vetoes.{since_begun, veto_restores}
 use Rattle.pnp_laws.proofs.VetoSteps.{VetoSince, Closed, veto_step, veto_happens}
+use Rattle.pnp_laws.proofs.EffectsOfOperations.{begun_work}
 use Rattle.pnp_laws.specs.Effects as ef
 
 -- within the operation
@@ -39,9 +40,9 @@ veto_goes before settings s (Declines label) t good w g h = let idle = idle_befo
 
 -- the end
 
-veto_of : (c : Core) (o : Option ℕ) (q : Text) → end_of c o ≡ OpEnd.Veto q → (k : ℕ) × (o ≡ Some k)
-veto_of c None q e = absurd (cc)
-veto_of c (Some k) q e = (k, refl)
+veto_of : (c : Core) (refused : List ℕ) (q : Text) → end_of c refused ≡ OpEnd.Veto q → (k : ℕ) × (ks : List ℕ) × (refused ≡ k ∷ ks)
+veto_of c [] q e = absurd (cc)
+veto_of c (k ∷ ks) q e = (k, ks, refl)
 
 pub veto_end : (before : Core) (settings : Settings) (s t : State) (kind : OpKind) (path q : Text) → IsGood s → VetoSince before s → Goes settings s (Did (Label.End kind path (OpEnd.Veto q))) t →
     (t.core.nodes ≡ before.nodes) × (t.core.relations ≡ before.relations) × (t.core.reserved ≡ before.reserved)
@@ -50,9 +51,9 @@ veto_end before settings s t kind path q good h g =
       | inl next ↦ absurd next.0
       | inr closed ↦
           let label = closed.label in
-          let e : end_of s.core closed.op.refuser ≡ OpEnd.Veto q = cc in
-          let refuser = veto_of s.core closed.op.refuser q e in
-          let same = veto_restores before s.core closed.op refuser.0 refuser.1 closed.since in
+          let e : end_of s.core closed.op.refused ≡ OpEnd.Veto q = cc in
+          let refuser = veto_of s.core closed.op.refused q e in
+          let same = veto_restores before s.core closed.op refuser.0 refuser.1 refuser.2 closed.since in
           let core = closed.core in
           (ap (λ (c : Core). c.nodes) core ∙ same.0, ap (λ (c : Core). c.relations) core ∙ same.1, ap (λ (c : Core). c.reserved) core ∙ same.2)
     ]
@@ -61,9 +62,9 @@ veto_end before settings s t kind path q good h g =
 
 -- an operation runs that is no removal
 record Unvetoed (s : State) : Type 0 where
-  op : Operation
+  op : Job
   runs : s.operation ≡ Some op
-  sort : is_removal op ≡ false
+  sort : is_removal (course_of op.kind) ≡ false
 
 unvetoed_way : (s t : State) (label : Label) → Way s (record { label = label; state = t }) → IsWithin label → Unvetoed s → Unvetoed t
 unvetoed_way s t label (Way.idles none after beside) w h = let runs = h.runs in absurd (cc)
@@ -71,7 +72,7 @@ unvetoed_way s t label (Way.begins kind node none at is) w h = let runs = h.runs
 unvetoed_way s t label (Way.goes o p runs after work prints) w h =
     let own = h.runs in
     let same : h.op ≡ o = cc in
-    record { op = p; runs = after; sort = work.sort ∙ ap is_removal (sym same) ∙ h.sort }
+    record { op = p; runs = after; sort = ap (λ (x : OpKind). is_removal (course_of x)) (work.kind ∙ ap (λ (x : Job). x.kind) (sym same)) ∙ h.sort }
 unvetoed_way s t label (Way.ends o result runs after is by) w h = absurd (subst (λ (x : Label). IsWithin x) is w)
 
 no_veto : (s t : State) (kind : OpKind) (path q : Text) → Way s (record { label = Label.End kind path (OpEnd.Veto q); state = t }) → Unvetoed s → ⊥
@@ -82,7 +83,7 @@ no_veto s t kind path q (Way.goes o p runs after work (inr (kinds, label))) h = 
 no_veto s t kind path q (Way.ends o result runs after label by) h =
     let own = h.runs in
     let same : h.op ≡ o = cc in
-    let sort : is_removal o ≡ false = ap is_removal (sym same) ∙ h.sort in
+    let sort : is_removal (course_of o.kind) ≡ false = ap (λ (x : Job). is_removal (course_of x.kind)) (sym same) ∙ h.sort in
     let veto : result ≡ OpEnd.Veto q = cc in
     subst (λ (x : OpEnd). NoVeto x) veto (subst (λ (b : Bool). EndsBy b result) sort by)
 
@@ -103,24 +104,24 @@ unvetoed settings rack begun last after entries end_kind end_path q reached h ru
     no_veto last after end_kind end_path q (way_goes settings last (Did (Label.End end_kind end_path (OpEnd.Veto q))) after (reached_fine settings rack last (reached_after settings rack begun entries last reached run)) ends) still
 
 -- a removal of the kind began
-removal_since : (s : State) (kind : OpKind) (node : Node) (t : State) → t ≡ (begin s kind node (Operation.Removing (begun_removal s.core kind node))).state → VetoSince s.core t
-removal_since s kind node t is =
+removal_since : (s : State) (kind : OpKind) (node : Node) (t : State) → course_of (begun_removal s.core kind node).kind ≡ Course.Removing → t ≡ (begin s kind node (begun_removal s.core kind node)).state → VetoSince s.core t
+removal_since s kind node t course is =
     let o = begun_removal s.core kind node in
-    let first : VetoSince s.core (begin s kind node (Operation.Removing o)).state =
-    record { op = o; runs = refl; since = since_begun s.core kind node (leaving s.core node.serial) } in
+    let first : VetoSince s.core (begin s kind node o).state =
+    record { op = o; runs = refl; course = course; since = since_begun s.core kind node (leaving s.core node.serial) } in
     subst (λ (x : State). VetoSince s.core x) (sym is) first
 
-other_runs : (s : State) (kind : OpKind) (node : Node) (t : State) (o : Operation) → is_removal o ≡ false → t ≡ (begin s kind node o).state → Unvetoed t
+other_runs : (s : State) (kind : OpKind) (node : Node) (t : State) (o : Job) → is_removal (course_of o.kind) ≡ false → t ≡ (begin s kind node o).state → Unvetoed t
 other_runs s kind node t o sort is = record { op = o; runs = ap (λ (x : State). x.operation) is; sort = sort }
 
 by_begin : (settings : Settings) (rack : List Driver) (before begun last after : State) (entries : List Entry) (kind end_kind : OpKind) (path end_path q : Text) → Begun before kind path begun → IsReached settings rack begun →
     Run settings begun entries last → AllWithin entries → Goes settings last (Did (Label.End end_kind end_path (OpEnd.Veto q))) after → Restores before.core after.core
 by_begin settings rack before begun last after entries OpKind.Disable end_kind path end_path q b reached run within ends =
-    veto_since before.core settings rack begun last after entries end_kind end_path q reached (removal_since before OpKind.Disable b.node begun b.is) run within ends
+    veto_since before.core settings rack begun last after entries end_kind end_path q reached (removal_since before OpKind.Disable b.node begun (ap course_of (begun_work before OpKind.Disable b.node).0) b.is) run within ends
 by_begin settings rack before begun last after entries OpKind.Eject end_kind path end_path q b reached run within ends =
-    veto_since before.core settings rack begun last after entries end_kind end_path q reached (removal_since before OpKind.Eject b.node begun b.is) run within ends
+    veto_since before.core settings rack begun last after entries end_kind end_path q reached (removal_since before OpKind.Eject b.node begun (ap course_of (begun_work before OpKind.Eject b.node).0) b.is) run within ends
 by_begin settings rack before begun last after entries kind end_kind path end_path q b reached run within ends =
-    absurd (unvetoed settings rack begun last after entries end_kind end_path q reached (other_runs before kind b.node begun (ef.begun before kind b.node) refl b.is) run within ends)
+    absurd (unvetoed settings rack begun last after entries end_kind end_path q reached (other_runs before kind b.node begun (ef.begun before kind b.node) (ap (λ (x : OpKind). is_removal (course_of x)) (begun_work before kind b.node).0) b.is) run within ends)
 
 pub a_veto_restores : VetoLaw
 a_veto_restores settings rack earlier entries before begun last after kind end_kind path end_path refuser reaches goes run within ends =

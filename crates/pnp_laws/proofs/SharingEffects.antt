@@ -1,5 +1,5 @@
 -- No step and no event lets resources clash: by what they do to nodes and ranges.
-use Rattle.std.proofs.Common.{ℕ, ◌≡◌, inl, inr, List, [], ◌∷◌, ◌++◌, Option, refl, sym, ap, ◌∙◌, subst, arith}
+use Rattle.std.proofs.Common.{ℕ, ◌≡◌, inl, inr, List, [], ◌∷◌, ◌++◌, refl, sym, ap, ◌∙◌, subst, arith}
 use Rattle.std.proofs.lemmas.List.{length-map}
 use Rattle.std.proofs.lemmas.Slice.Zip.{AllZip-long}
 use Rattle.resource_reqs.specs.Resources.{Res, Reqs, IsAssignment, Whole}
@@ -9,16 +9,17 @@ use Rattle.pnp_model.specs.Cores.{bare, is_node, node_at}
 use Rattle.pnp_model.specs.Frames.{fixed_beside}
 use Rattle.pnp_model.specs.Keyed.{changed_first}
 use Rattle.pnp_model.specs.Rebalances.{movers, others, plan_of, reqs_of}
-use Rattle.pnp_model.specs.Records.{Node, Operation, RebalanceStage, State, Step}
+use Rattle.pnp_model.specs.Records.{Node, State, Step, Stage}
 use Rattle.pnp_model.specs.Runs.{Entry}
 use Rattle.pnp_model.specs.Sharing.{Clear}
 use Rattle.pnp_model.specs.Starts.{own_part}
 use Rattle.pnp_model.specs.States.{new_child}
 use Rattle.pnp_laws.specs.Effects.{Alters, NodeEffect, RangeEffect}
 use Rattle.pnp_laws.specs.Kept.{Ascending}
-use Rattle.pnp_laws.specs.Plans.{IsPlanned, PlanKept, StagePlan, moving_reqs}
+use Rattle.pnp_laws.specs.Plans.{IsPlanned, StagePlan, moving_reqs}
 use Rattle.pnp_laws.proofs.Lookups.{joined_from, left_from, node_from}
 use Rattle.pnp_laws.proofs.Sharing.{Clear_assigned, Clear_committed, Clear_no_more, Clear_reserved, NoMore}
+use Rattle.pnp_laws.proofs.FitsBy.{plan_by}
 
 -- one mover has one part
 one_part : (fixed : List Res) (reqs : Reqs) (plan : List (List Res)) → IsAssignment fixed (reqs ∷ []) plan → plan ≡ own_part plan ∷ []
@@ -65,8 +66,8 @@ module _ (s : State) (label : Label) (order : Ascending 0 s.core.nodes) (planned
   clear_nodes t (NodeEffect.same e relations) = subst (λ (x : List Node). Clear s.core.reserved x) (sym e) clear
   clear_nodes t (NodeEffect.changed j f alters e relations) = subst (λ (x : List Node). Clear s.core.reserved x) (sym e) (clear_altered t j f alters)
   clear_nodes t (NodeEffect.stripped node w at request ends prints e relations) = subst (λ (x : List Node). Clear s.core.reserved x) (sym e) (less _ (no_more_bare node.serial s.core.nodes))
-  clear_nodes t (NodeEffect.commits r runs is e relations) =
-      let plan = subst (λ (x : RebalanceStage). StagePlan r x s.core.reserved s.core.nodes) is (subst (λ (x : Option Operation). PlanKept x s.core.reserved s.core.nodes) runs planned) in
+  clear_nodes t (NodeEffect.commits r runs course is e relations) =
+      let plan = subst (λ (x : Stage). StagePlan r x s.core.reserved s.core.nodes) is (plan_by s r planned runs course) in
       let more = length-map (others r) (λ k. reqs_of (node_at k s.core.nodes)) in
       subst (λ (x : List Node). Clear s.core.reserved x) (sym e)
       (Clear_committed s.core r.wanted r.target (movers r) (moving_reqs r s.core.nodes) (plan_of r.found) plan (omega arith) clear)

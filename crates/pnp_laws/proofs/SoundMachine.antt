@@ -4,11 +4,10 @@ use Rattle.std.proofs.lemmas.Bool.Decides.{nat_tests}
 use Rattle.device_ids.specs.Folding.{same}
 use Rattle.pnp_model.specs.Tests.{has, is_surprise_task}
 use Rattle.pnp_model.proofs.Due.{due_is_first}
-use Rattle.pnp_model.specs.Records.{Node, Core, Relation, Activity, Task, State, Step, Settings, Operation, Rebalance, RebalanceStage, Removal, RemovalStage, Surprise, SurpriseStage, Finish, FinishStage, Duty}
+use Rattle.pnp_model.specs.Records.{Node, Core, Relation, Activity, Task, State, Step, Settings, Duty, Job, Stage, course_of, Course}
 use Rattle.pnp_model.specs.Cores.{node_at}
 use Rattle.pnp_model.specs.Trees.{dependents}
 use Rattle.pnp_model.specs.States.{set_operation, with_core}
-use Rattle.pnp_labels.specs.declared.words.Answer.{Answer}
 use Rattle.pnp_labels.specs.declared.event.Event.{Event}
 use Rattle.pnp_labels.specs.declared.label.OpKind.{OpKind}
 use Rattle.pnp_laws.specs.Kept.{Ascending, Good, IsGood, BeginsWell, is_idle, RebalanceKeeps, RemovalKeeps, SurpriseKeeps, FinishKeeps}
@@ -23,7 +22,7 @@ use Rattle.pnp_laws.proofs.Lookups.{node_found}
 use Rattle.pnp_laws.proofs.OpSteps.{is_Started}
 use Rattle.pnp_laws.proofs.Orders.{leaving_fits}
 use Rattle.pnp_laws.proofs.Due.{settled_from_due}
-use Rattle.pnp_laws.proofs.Standing.{Tree, DueBut, waiting, rebalance_waiting, StageKept, ToldKept, OrderKept, RemovalOrder, SurpriseOrder, SurpriseTold, FinishOrder, Stands, Sound, Finishes, FinishesBut, HeadAlone, RebalanceThere, RemovalThere, SurpriseThere, FinishThere}
+use Rattle.pnp_laws.proofs.Standing.{Tree, DueBut, waiting, rebalance_waiting, StageKept, ToldKept, OrderKept, RemovalOrder, SurpriseOrder, SurpriseTold, FinishOrder, Stands, Sound, Finishes, FinishesBut, HeadAlone, RebalanceThere, RemovalThere, SurpriseThere, FinishThere, JobKept, kept_by, told_by, waits_by, kept_walked, waits_walked}
 use Rattle.pnp_laws.proofs.TreeChanges.{edges_same, same_still, tree_same}
 use Rattle.pnp_laws.proofs.TreeMoves.{tree_related}
 use Rattle.pnp_laws.proofs.Sounds.{IsPlain, leads_pushed, up_append, up_first, due_still}
@@ -35,127 +34,106 @@ use Rattle.pnp_laws.proofs.SoundRebalances.{sound_rebalance}
 use Rattle.pnp_laws.proofs.SoundRemovals.{sound_removal, sound_surprise, sound_finish}
 use Rattle.pnp_laws.proofs.Turns.{turn_good}
 use Rattle.pnp_laws.proofs.TurnsKept.{turn_stage, turn_told, turn_waiting}
-use Rattle.pnp_laws.proofs.Stages.{OperationStep, asking, reply}
+use Rattle.pnp_laws.proofs.Stages.{OperationStep, asking, own_step, reply}
 use Rattle.pnp_laws.proofs.SoundTasks.{sound_drop, sound_task}
 use Rattle.pnp_model.specs.Machine as ma
 use Rattle.pnp_model.specs.Events as ev
+use Rattle.pnp_model.specs.Walks.{after}
+use Rattle.pnp_laws.proofs.FitsBy.{fits_by}
 
 -- What is kept of an operation -----------------------------------------------------------------------
 
 -- the operation's facts are of nodes and relations alone
-stage_same : (o : Option Operation) (c d : Core) → Ascending 0 c.nodes → d.nodes ≡ c.nodes → d.relations ≡ c.relations → StageKept o c → StageKept o d
-stage_same (Some (Operation.Rebalancing r)) c d order a b h = (h.0, subst (λ (x : List Node). RebalanceThere r r.stage x) (sym a) h.1)
-stage_same (Some (Operation.Removing o)) c d order a b h = (by_stage o.stage h.0, subst (λ (x : List Node). RemovalThere o o.stage x) (sym a) h.1)
-  where
-    moved : (todo : List ℕ) → Finishes c o.set todo → Finishes d o.set todo
-    moved todo f = finishes_still c d o.set todo (fades_same c d order (subst (λ (x : List Node). Ascending 0 x) (sym a) order) (same_still c d a b)) a f
+module _ (c d : Core) (order : Ascending 0 c.nodes) (a : d.nodes ≡ c.nodes) (b : d.relations ≡ c.relations) (o : Job) where
+  moved : (todo : List ℕ) → Finishes c o.set todo → Finishes d o.set todo
+  moved todo f = finishes_still c d o.set todo (fades_same c d order (subst (λ (x : List Node). Ascending 0 x) (sym a) order) (same_still c d a b)) a f
 
-    by_stage : (stage : RemovalStage) → RemovalOrder c o stage → RemovalOrder d o stage
-    by_stage RemovalStage.Next h = moved o.set h
-    by_stage (RemovalStage.Asking w) h = moved o.set h
-    by_stage (RemovalStage.TakingBack w) h = tt
-    by_stage (RemovalStage.Cancelling w) h = tt
-    by_stage (RemovalStage.Removing w) h = moved o.todo h
-    by_stage RemovalStage.Settling h = moved o.todo h
-    by_stage RemovalStage.Ending h = tt
-stage_same (Some (Operation.Surprising o)) c d order a b h = (by_stage o.stage h.0, subst (λ (x : List Node). SurpriseThere o o.stage x) (sym a) h.1)
-  where
-    moved : (todo : List ℕ) → Finishes c o.set todo → Finishes d o.set todo
-    moved todo f = finishes_still c d o.set todo (fades_same c d order (subst (λ (x : List Node). Ascending 0 x) (sym a) order) (same_still c d a b)) a f
+  but : (todo : List ℕ) → FinishesBut c o.set o.behind todo → FinishesBut d o.set o.behind todo
+  but todo f = but_still c o.set o.behind todo d (fades_same c d order (subst (λ (x : List Node). Ascending 0 x) (sym a) order) (same_still c d a b)) a f
 
-    but : (todo : List ℕ) → FinishesBut c o.set o.behind todo → FinishesBut d o.set o.behind todo
-    but todo f = but_still c o.set o.behind todo d (fades_same c d order (subst (λ (x : List Node). Ascending 0 x) (sym a) order) (same_still c d a b)) a f
+  alone : HeadAlone c o.todo → HeadAlone d o.todo
+  alone f = alone_less c d o.todo (edges_same c d (same_still c d a b)) f
 
-    alone : HeadAlone c o.todo → HeadAlone d o.todo
-    alone f = alone_less c d o.todo (edges_same c d (same_still c d a b)) f
+  same_removal : (stage : Stage) → RemovalOrder c o stage → RemovalOrder d o stage
+  same_removal Stage.Next h = moved o.set h
+  same_removal Stage.Asking h = moved o.set h
+  same_removal Stage.Removing h = moved o.todo h
+  same_removal Stage.Settling h = moved o.todo h
+  same_removal _ h = tt
 
-    by_stage : (stage : SurpriseStage) → SurpriseOrder c o stage → SurpriseOrder d o stage
-    by_stage (SurpriseStage.Telling w) h = moved o.set h
-    by_stage SurpriseStage.Next h = but o.todo h
-    by_stage (SurpriseStage.Removing w) h = (but o.todo h.0, alone h.1)
-    by_stage SurpriseStage.Settling h = (but o.todo h.0, alone h.1)
-    by_stage SurpriseStage.Ending h = but [] h
-stage_same (Some (Operation.Finishing f)) c d order a b h = (by_stage f.stage h.0, subst (λ (x : List Node). FinishThere f f.stage x) (sym a) h.1)
-  where
-    by_stage : (stage : FinishStage) → FinishOrder c f stage → FinishOrder d f stage
-    by_stage FinishStage.Next h = tt
-    by_stage (FinishStage.Removing w) h = alone_less c d f.todo (edges_same c d (same_still c d a b)) h
-    by_stage FinishStage.Leaving h = alone_less c d f.todo (edges_same c d (same_still c d a b)) h
-    by_stage FinishStage.Holding h = tt
-stage_same _ c d order a b h = tt
+  same_surprise : (stage : Stage) → SurpriseOrder c o stage → SurpriseOrder d o stage
+  same_surprise Stage.Telling h = moved o.set h
+  same_surprise Stage.Next h = but o.todo h
+  same_surprise Stage.Removing h = (but o.todo h.0, alone h.1)
+  same_surprise Stage.Settling h = (but o.todo h.0, alone h.1)
+  same_surprise Stage.Ending h = but [] h
+  same_surprise _ h = tt
 
--- an answer leaves them as they are, and who waits
-completed_rebalance : (answer : Answer) (nodes : List Node) (r : Rebalance) (stage : RebalanceStage) → (OrderKept r stage × RebalanceThere r stage nodes →
-    OrderKept (record r { stage = ev.completed_rebalance answer stage }) (ev.completed_rebalance answer stage) × RebalanceThere (record r { stage = ev.completed_rebalance answer stage }) (ev.completed_rebalance answer stage) nodes)
-    × (rebalance_waiting (record r { stage = ev.completed_rebalance answer stage }) (ev.completed_rebalance answer stage) ≡ rebalance_waiting r stage)
-completed_rebalance answer nodes r (RebalanceStage.Asking w) = (λ h. h, refl)
-completed_rebalance answer nodes r _ = (λ h. h, refl)
+  same_finish : (stage : Stage) → FinishOrder c o stage → FinishOrder d o stage
+  same_finish Stage.Removing h = alone h
+  same_finish Stage.Leaving h = alone h
+  same_finish _ h = tt
 
-completed_removal : (answer : Answer) (c : Core) (o : Removal) (stage : RemovalStage) → RemovalOrder c o stage × RemovalThere o stage c.nodes →
-    RemovalOrder c (record o { stage = ev.completed_removal answer stage }) (ev.completed_removal answer stage) × RemovalThere (record o { stage = ev.completed_removal answer stage }) (ev.completed_removal answer stage) c.nodes
-completed_removal answer c o (RemovalStage.Asking w) h = h
-completed_removal answer c o _ h = h
+  same_kept : (course : Course) → JobKept course o c → JobKept course o d
+  same_kept Course.Rebalancing h = (h.0, subst (λ (x : List Node). RebalanceThere o o.stage x) (sym a) h.1)
+  same_kept Course.Removing h = (same_removal o.stage h.0, subst (λ (x : List Node). RemovalThere o o.stage x) (sym a) h.1)
+  same_kept Course.Surprising h = (same_surprise o.stage h.0, subst (λ (x : List Node). SurpriseThere o o.stage x) (sym a) h.1)
+  same_kept Course.Finishing h = (same_finish o.stage h.0, subst (λ (x : List Node). FinishThere o o.stage x) (sym a) h.1)
 
-completed_surprise : (answer : Answer) (c : Core) (o : Surprise) (stage : SurpriseStage) → SurpriseOrder c o stage × SurpriseThere o stage c.nodes →
-    SurpriseOrder c (record o { stage = ev.completed_surprise answer stage }) (ev.completed_surprise answer stage) × SurpriseThere (record o { stage = ev.completed_surprise answer stage }) (ev.completed_surprise answer stage) c.nodes
-completed_surprise answer c o (SurpriseStage.Telling w) h = h
-completed_surprise answer c o _ h = h
-
-completed_finish : (answer : Answer) (c : Core) (f : Finish) (stage : FinishStage) → FinishOrder c f stage × FinishThere f stage c.nodes →
-    FinishOrder c (record f { stage = ev.completed_finish answer stage }) (ev.completed_finish answer stage) × FinishThere (record f { stage = ev.completed_finish answer stage }) (ev.completed_finish answer stage) c.nodes
-completed_finish answer c f (FinishStage.Removing w) h = h
-completed_finish answer c f _ h = h
-
-completed_stage : (answer : Answer) (o : Operation) (c : Core) → StageKept (Some o) c → StageKept (Some (ev.completed answer o)) c
-completed_stage answer (Operation.Rebalancing r) c h = (completed_rebalance answer c.nodes r r.stage).0 h
-completed_stage answer (Operation.Removing o) c h = completed_removal answer c o o.stage h
-completed_stage answer (Operation.Surprising o) c h = completed_surprise answer c o o.stage h
-completed_stage answer (Operation.Finishing f) c h = completed_finish answer c f f.stage h
-
-completed_waiting : (answer : Answer) (nodes : List Node) (o : Operation) → waiting (Some (ev.completed answer o)) ≡ waiting (Some o)
-completed_waiting answer nodes (Operation.Rebalancing r) = (completed_rebalance answer nodes r r.stage).1
-completed_waiting answer nodes _ = refl
+stage_same : (o : Option Job) (c d : Core) → Ascending 0 c.nodes → d.nodes ≡ c.nodes → d.relations ≡ c.relations → StageKept o c → StageKept o d
+stage_same None c d order a b h = tt
+stage_same (Some o) c d order a b h = same_kept c d order a b o (course_of o.kind) h
 
 -- Steps --------------------------------------------------------------------------------------------
 
-sound_operation : (s : State) (o : Operation) (step : Step) → Good s.next_serial s.core.nodes s.activities (Some o) → ToldKept (Some o) s.core → StageKept (Some o) s.core → DueBut (waiting (Some o)) s.tasks s.core.nodes → Stands s → OperationStep s o step → Sound s step
-sound_operation s p step good told kept due h (OperationStep.asks o node w asks) =
-    let answer = reply s.core node w in
-    let t = (asking s o node w).state in
-    op_still s t _ (waiting (Some o)) tt refl refl refl refl (λ same. stage_same (Some (ev.completed answer o)) s.core t.core good.serials refl refl (completed_stage answer o s.core kept)) (completed_waiting answer s.core.nodes o) due h
-sound_operation s p step good told kept due h (OperationStep.rebalances r stage m is x) =
-    let g = subst (λ (acts : List Activity). Good s.next_serial s.core.nodes acts (Some (Operation.Rebalancing r))) good.alone good in
-    sound_rebalance s r g told h stage m (subst (λ (y : RebalanceStage). RebalanceKeeps r y s.core.nodes) is good.fits) (subst (λ (y : RebalanceStage). OrderKept r y) is kept.0) (subst (λ (y : RebalanceStage). RebalanceThere r y s.core.nodes) is kept.1)
-    (subst (λ (y : RebalanceStage). DueBut (rebalance_waiting r y) s.tasks s.core.nodes) is due) x
-sound_operation s p step good told kept due h (OperationStep.removes o stage m is x) =
-    let g = subst (λ (acts : List Activity). Good s.next_serial s.core.nodes acts (Some (Operation.Removing o))) good.alone good in
-    sound_removal s o g due h stage m (subst (λ (y : RemovalStage). RemovalKeeps o y s.core.nodes) is good.fits) (subst (λ (y : RemovalStage). RemovalOrder s.core o y) is kept.0) (subst (λ (y : RemovalStage). RemovalThere o y s.core.nodes) is kept.1) x
-sound_operation s p step good told kept due h (OperationStep.surprises o stage m is x) =
-    let g = subst (λ (acts : List Activity). Good s.next_serial s.core.nodes acts (Some (Operation.Surprising o))) good.alone good in
-    sound_surprise s o g due h (ma.is_target_in_world s o) s.handles stage m (subst (λ (y : SurpriseStage). SurpriseKeeps o y s.core.nodes) is good.fits) (subst (λ (y : SurpriseStage). SurpriseOrder s.core o y) is kept.0)
-    (subst (λ (y : SurpriseStage). SurpriseThere o y s.core.nodes) is kept.1) (subst (λ (y : SurpriseStage). SurpriseTold s.core o y) is told) x
-sound_operation s p step good told kept due h (OperationStep.finishes f stage m is x) =
-    let g = subst (λ (acts : List Activity). Good s.next_serial s.core.nodes acts (Some (Operation.Finishing f))) good.alone good in
-    sound_finish s f g due h (ma.is_current_in_world s f) s.handles stage m (subst (λ (y : FinishStage). FinishKeeps f y s.core.nodes) is good.fits) (subst (λ (y : FinishStage). FinishOrder s.core f y) is kept.0)
-    (subst (λ (y : FinishStage). FinishThere f y s.core.nodes) is kept.1) x
+sound_operation : (s : State) (o : Job) (step : Step) → Good s.next_serial s.core.nodes s.activities (Some o) → ToldKept (Some o) s.core → StageKept (Some o) s.core → DueBut (waiting (Some o)) s.tasks s.core.nodes → Stands s → OperationStep s o step → Sound s step
+sound_operation s o step good told kept due h is = by_step step is
+  where
+    g : Good s.next_serial s.core.nodes [] (Some o)
+    g = subst (λ (acts : List Activity). Good s.next_serial s.core.nodes acts (Some o)) good.alone good
+
+    by_step : (x : Step) → OperationStep s o x → Sound s x
+    by_step _ (OperationStep.asks node w asks) =
+        let t = (asking s o node w).state in
+        op_still s t _ (waiting (Some o)) tt refl refl refl refl (λ same. stage_same (Some (record o { walk = Some (after w (reply s.core node w)) })) s.core t.core good.serials refl refl (kept_walked o (Some (after w (reply s.core node w))) s.core kept)) (waits_walked o (Some (after w (reply s.core node w)))) due h
+    by_step _ (OperationStep.rebalances stage m course is x) =
+        let kept = kept_by Course.Rebalancing o s.core course kept in
+        sound_rebalance s o course g (told_by Course.Rebalancing o s.core course told) h stage m (subst (λ (y : Stage). RebalanceKeeps o y s.core.nodes) is (fits_by Course.Rebalancing o s.core.nodes course good.fits))
+        (subst (λ (y : Stage). OrderKept o y) is kept.0) (subst (λ (y : Stage). RebalanceThere o y s.core.nodes) is kept.1)
+        (subst (λ (y : Stage). DueBut (rebalance_waiting o y) s.tasks s.core.nodes) is (subst (λ (ks : List ℕ). DueBut ks s.tasks s.core.nodes) (waits_by Course.Rebalancing o course) due)) x
+    by_step _ (OperationStep.removes stage m course is x) =
+        let kept = kept_by Course.Removing o s.core course kept in
+        sound_removal s o course g (subst (λ (ks : List ℕ). DueBut ks s.tasks s.core.nodes) (waits_by Course.Removing o course) due) h stage m (subst (λ (y : Stage). RemovalKeeps o y s.core.nodes) is (fits_by Course.Removing o s.core.nodes course good.fits))
+        (subst (λ (y : Stage). RemovalOrder s.core o y) is kept.0) (subst (λ (y : Stage). RemovalThere o y s.core.nodes) is kept.1) x
+    by_step _ (OperationStep.surprises stage m course is x) =
+        let kept = kept_by Course.Surprising o s.core course kept in
+        sound_surprise s o course g (subst (λ (ks : List ℕ). DueBut ks s.tasks s.core.nodes) (waits_by Course.Surprising o course) due) h (ma.is_back s o Course.Surprising) s.handles stage m
+        (subst (λ (y : Stage). SurpriseKeeps o y s.core.nodes) is (fits_by Course.Surprising o s.core.nodes course good.fits)) (subst (λ (y : Stage). SurpriseOrder s.core o y) is kept.0)
+        (subst (λ (y : Stage). SurpriseThere o y s.core.nodes) is kept.1) (subst (λ (y : Stage). SurpriseTold s.core o y) is (told_by Course.Surprising o s.core course told)) x
+    by_step _ (OperationStep.finishes stage m course is x) =
+        let kept = kept_by Course.Finishing o s.core course kept in
+        sound_finish s o course g (subst (λ (ks : List ℕ). DueBut ks s.tasks s.core.nodes) (waits_by Course.Finishing o course) due) h (ma.is_back s o Course.Finishing) s.handles stage m
+        (subst (λ (y : Stage). FinishKeeps o y s.core.nodes) is (fits_by Course.Finishing o s.core.nodes course good.fits)) (subst (λ (y : Stage). FinishOrder s.core o y) is kept.0)
+        (subst (λ (y : Stage). FinishThere o y s.core.nodes) is kept.1) x
 
 pub sound_step : (settings : Settings) (s : State) (step : Step) → IsGood s → ToldKept s.operation s.core → Stands s → ma.IsStep settings (ma.next settings s) step → Sound s step
 sound_step settings s step good told h is = by_step step (machine_step settings s step is)
   where
     calm : s.operation ≡ None → Good s.next_serial s.core.nodes s.activities None
-    calm none = subst (λ (x : Option Operation). Good s.next_serial s.core.nodes s.activities x) none good
+    calm none = subst (λ (x : Option Job). Good s.next_serial s.core.nodes s.activities x) none good
 
     by_step : (x : Step) → MachineStep s x → Sound s x
     by_step _ (MachineStep.operates o x runs taken) =
         let p = taken.now in
-        let g = subst (λ (y : Option Operation). Good s.next_serial s.core.nodes s.activities y) runs good in
-        let w = subst (λ (y : Option Operation). ToldKept y s.core) runs told in
-        sound_operation s p x (turn_good s o p taken.turn g) (turn_told s o p taken.turn w) (turn_stage s h.tree o p taken.turn g w (subst (λ (y : Option Operation). StageKept y s.core) runs h.stage))
-        (subst (λ (ks : List ℕ). DueBut ks s.tasks s.core.nodes) (sym (turn_waiting s o p taken.turn)) (subst (λ (y : Option Operation). DueBut (waiting y) s.tasks s.core.nodes) runs h.due)) h taken.is
+        let g = subst (λ (y : Option Job). Good s.next_serial s.core.nodes s.activities y) runs good in
+        let w = subst (λ (y : Option Job). ToldKept y s.core) runs told in
+        let now = turn_good s o p taken.turn g in
+        sound_operation s p x now (turn_told s o p taken.turn w) (turn_stage s h.tree o p taken.turn g w (subst (λ (y : Option Job). StageKept y s.core) runs h.stage))
+        (subst (λ (ks : List ℕ). DueBut ks s.tasks s.core.nodes) (sym (turn_waiting s o p taken.turn)) (subst (λ (y : Option Job). DueBut (waiting y) s.tasks s.core.nodes) runs h.due)) h (own_step s p x now.fits taken.is)
     by_step _ (MachineStep.starts node phase m at acting is) =
         let fit = acting_fits s node.serial node phase at acting good in
         sound_act s node acting.none at fit.0 h phase m fit.1 good.serials is
-    by_step _ (MachineStep.does x none is) = sound_task s x none (calm none) (subst (λ (y : Option Operation). ToldKept y s.core) none told) h is
+    by_step _ (MachineStep.does x none is) = sound_task s x none (calm none) (subst (λ (y : Option Job). ToldKept y s.core) none told) h is
 
 -- a client declines what is due, which is no surprise
 pub sound_declined : (s : State) (label : Label) (t : State) → ma.IsDeclined s label t → Stands s → Sound s (record { label = label; state = t })
@@ -175,7 +153,7 @@ pub begins_well : (s : State) → s.operation ≡ None → IsGood s → Stands s
 begins_well s none good h =
     let due : AllDue s.tasks s.core.nodes =
     λ k n at stopped.
-    elim (subst (λ (x : Option Operation). DueBut (waiting x) s.tasks s.core.nodes) none h.due k n at stopped) [ inl q ↦ q | inr q ↦ absurd (cc) ] in
+    elim (subst (λ (x : Option Job). DueBut (waiting x) s.tasks s.core.nodes) none h.due k n at stopped) [ inl q ↦ q | inr q ↦ absurd (cc) ] in
     record {
       up = λ kind k first. up_first s.tasks (record { kind = Duty.Begins kind; serial = k }) first h.up;
       orders = λ k n at up. leaving_fits h.tree.rank s.core k n good.serials h.tree.ranked h.tree.free at up;
@@ -190,9 +168,9 @@ outside s t order a b next op tasks h =
     record {
       tree = subst (λ (i : ℕ). Tree i t.core) (sym next) (tree_same s.next_serial s.core t.core (same_still s.core t.core a b) h.tree);
       up = tasks.up h.up;
-      stage = subst (λ (x : Option Operation). StageKept x t.core) (sym op) (stage_same s.operation s.core t.core order a b h.stage);
+      stage = subst (λ (x : Option Job). StageKept x t.core) (sym op) (stage_same s.operation s.core t.core order a b h.stage);
       due =
-          subst (λ (x : Option Operation). DueBut (waiting x) t.tasks t.core.nodes) (sym op)
+          subst (λ (x : Option Job). DueBut (waiting x) t.tasks t.core.nodes) (sym op)
           (due_still (waiting s.operation) (waiting s.operation) s.tasks t.tasks s.core.nodes t.core.nodes a tasks.leads (λ k q. q) h.due);
     }
 
@@ -231,15 +209,15 @@ related_stands s r rel good h =
 
 -- complete
 
-answered_stands : (s : State) (ok : Bool) (o : Operation) → s.operation ≡ Some o → Stands s → Stands (set_operation (Some (ev.completed (ev.answer_of ok) o)) s)
+answered_stands : (s : State) (ok : Bool) (o : Job) → s.operation ≡ Some o → Stands s → Stands (set_operation (Some (ev.completed (ev.answer_of ok) o)) s)
 answered_stands s ok o e h =
     record {
       tree = h.tree;
       up = h.up;
-      stage = completed_stage (ev.answer_of ok) o s.core (subst (λ (x : Option Operation). StageKept x s.core) e h.stage);
+      stage = kept_walked o (ev.completed (ev.answer_of ok) o).walk s.core (subst (λ (x : Option Job). StageKept x s.core) e h.stage);
       due =
-          subst (λ (ks : List ℕ). DueBut ks s.tasks s.core.nodes) (sym (completed_waiting (ev.answer_of ok) s.core.nodes o))
-          (subst (λ (x : Option Operation). DueBut (waiting x) s.tasks s.core.nodes) e h.due);
+          subst (λ (ks : List ℕ). DueBut ks s.tasks s.core.nodes) (sym (waits_walked o (ev.completed (ev.answer_of ok) o).walk))
+          (subst (λ (x : Option Job). DueBut (waiting x) s.tasks s.core.nodes) e h.due);
     }
 
 -- in an event relations stay, or one is added
@@ -247,7 +225,7 @@ event_relations : (s : State) (label : Label) (t : State) → IsWord label → N
 event_relations s label t word (NodeEffect.same nodes e) = inl e
 event_relations s label t word (NodeEffect.changed j f alters nodes e) = inl e
 event_relations s label t word (NodeEffect.stripped node w at request ends prints nodes e) = absurd (subst (λ (x : Label). IsWord x) prints word)
-event_relations s label t word (NodeEffect.commits r runs is nodes e) = inl e
+event_relations s label t word (NodeEffect.commits r runs course is nodes e) = inl e
 event_relations s label t word (NodeEffect.joins node d none at up there is) = inl (ap (λ (x : Step). x.state.core.relations) is)
 event_relations s label t word (NodeEffect.left node o runs first nodes e) = inl e
 event_relations s label t word (NodeEffect.related r rel nodes e) = inr (r, rel, e)

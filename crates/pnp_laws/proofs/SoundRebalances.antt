@@ -1,5 +1,5 @@
 -- Each step of a rebalance keeps the tree and what is due.
-use Rattle.std.proofs.Common.{ℕ, ◌≡◌, ◌≢◌, inl, inr, Bool, true, false, List, [], ◌∷◌, length, Option, Some, None, refl, sym, ap, ◌∙◌, subst, arith, reverse}
+use Rattle.std.proofs.Common.{ℕ, ◌≡◌, ◌≢◌, inl, inr, Bool, true, false, List, [], ◌∷◌, length, Option, Some, None, refl, sym, ap, ◌∙◌, subst, arith, reverse, if◌then◌else◌}
 use Rattle.std.specs.Option.{option_map}
 use Rattle.std.proofs.lemmas.Bool.{cases_eq}
 use Rattle.std.proofs.lemmas.Bool.Decides.{nat_tests}
@@ -7,13 +7,13 @@ use Rattle.resource_reqs.specs.Spelling.Answer.{assignment, no_fit, spent}
 use Rattle.resource_reqs.specs.Resources.{Reqs}
 use Rattle.pnp_model.specs.Keyed.{changed_first, those}
 use Rattle.pnp_model.specs.Tests.{has}
-use Rattle.pnp_model.specs.Records.{Node, Task, State, Operation, Rebalance, RebalanceStage, Found, Duty}
-use Rattle.pnp_model.specs.Records.RebalanceStage.{Searching}
+use Rattle.pnp_model.specs.Records.{Node, Task, State, Found, Duty, Core, Course, Job, Stage, course_of}
 use Rattle.pnp_model.specs.Cores.{is_node, node_at, with_state, with_problem}
 use Rattle.pnp_model.specs.Trees.{stands_up}
 use Rattle.pnp_model.specs.Frames.{first_node, rest}
-use Rattle.pnp_model.specs.Rebalances.{RebalanceMove, cancelled, has_refused, search_on, ask_on, cancel_on, stop_on, startable, restart_from, is_not_above, searched, trouble_of, stuck, stop_step, committed, movers, plan_of, commit_step, end_restart, failed, kind_of, over, moved_on, result}
-use Rattle.pnp_model.specs.Machine.{rebalance_lifted}
+use Rattle.pnp_model.specs.Jobs.{Beside, JobMove, closes, each_gets, stands}
+use Rattle.pnp_model.specs.Machine.{job_lifted}
+use Rattle.pnp_model.specs.Rebalances.{after_restart, answers, cancelled, has_refused, ask_on, cancel_on, stop_on, startable, is_not_above, searched, trouble_of, stuck, committed, movers, plan_of, commit_step, failed, over, result}
 use Rattle.pnp_model.specs.Diagram.{Row}
 use Rattle.pnp_model.specs.Diagram.Row.{query_stop, query_stop_bad, cancel_stop_refused, cancel_stop, stop, restart, restart_bad}
 use Rattle.pnp_labels.specs.declared.states.DevState.{DevState}
@@ -21,6 +21,7 @@ use Rattle.pnp_labels.specs.declared.words.Minor.{Minor}
 use Rattle.pnp_labels.specs.declared.states.Problem.{Problem}
 use Rattle.pnp_labels.specs.declared.label.OpKind.{OpKind}
 use Rattle.pnp_labels.specs.declared.label.Label.{Label}
+use Rattle.pnp_labels.specs.declared.label.OpEnd.{OpEnd}
 use Rattle.pnp_labels.specs.declared.states.DevState.TheVariants.{Started, StopPending, Stopped}
 use Rattle.pnp_laws.specs.Kept.{Good, Each, RebalanceKeeps, stopped_state, is_calm, is_idle}
 use Rattle.pnp_laws.specs.Due.{leads, is_due}
@@ -31,67 +32,68 @@ use Rattle.pnp_laws.proofs.RebalanceSteps.{head_started, head_pending, head_stop
 use Rattle.pnp_laws.proofs.Aboves.{due_more}
 use Rattle.pnp_laws.specs.Rebalanced.{Rising}
 use Rattle.pnp_laws.proofs.Tolds.{told_walked}
-use Rattle.pnp_laws.proofs.Standing.{Told, DueBut, waiting, rebalance_waiting, OrderKept, Stands, Sound, Ordered, RebalanceThere, AllThere}
+use Rattle.pnp_laws.proofs.Standing.{Told, DueBut, waiting, rebalance_waiting, OrderKept, Stands, Sound, StageKept, Ordered, RebalanceThere, AllThere, keep, waits_by}
 use Rattle.pnp_laws.proofs.Theres.{goes_on, rest_there, those_there, reverse_there, startable_there, more_there, same_there, same_goes}
 use Rattle.pnp_laws.proofs.TreeChanges.{Alike, same_changed, same_mapped, nodes_same, tree_same}
-use Rattle.pnp_laws.proofs.Sounds.{IsPlain, LeadsMore, leads_same, leads_first, due_still, due_same, due_changed, sound_same, sound_walk}
-use Rattle.pnp_laws.proofs.Stages.{RebalanceStep}
+use Rattle.pnp_laws.proofs.Sounds.{LeadsMore, leads_same, leads_first, due_still, due_same, due_changed, sound_same, sound_walk}
+use Rattle.pnp_laws.proofs.Stages.{RebalanceAct, RebalanceStep, ended_by}
 use Rattle.pnp_laws.proofs.SoundOps.{Work, same_state, op_walk, op_still, problem_alike}
 use Rattle.pnp_laws.proofs.Restarts.{ordered_agreed, ordered_fewer, rising_rest, rising_startable, due_restart}
 use Rattle.pnp_laws.proofs.SoundRemovals.{started_stays}
 
 -- What comes next, by what is still to do ----------------------------------------------------------
 
-abbrev pub RebalanceKept : Rebalance → List Node → Type 0
-RebalanceKept r nodes = OrderKept r r.stage × RebalanceThere r r.stage nodes
+order_cancelled : (r : Job) → course_of r.kind ≡ Course.Rebalancing → (wanted : Option Reqs) (c : Core) → StageKept (Some (stands r [] (cancelled wanted))) c
+order_cancelled r course None c = keep Course.Rebalancing (stands r [] (cancelled None)) c course (tt, tt)
+order_cancelled r course (Some wanted) c = keep Course.Rebalancing (stands r [] (cancelled (Some wanted))) c course (tt, tt)
 
-order_cancelled : (r : Rebalance) (wanted : Option Reqs) (nodes : List Node) → OrderKept r (cancelled wanted) × RebalanceThere r (cancelled wanted) nodes
-order_cancelled r None nodes = (tt, tt)
-order_cancelled r (Some wanted) nodes = (tt, tt)
+waits_cancelled : (r : Job) → course_of r.kind ≡ Course.Rebalancing → (wanted : Option Reqs) → waiting (Some (stands r [] (cancelled wanted))) ≡ []
+waits_cancelled r course None = waits_by Course.Rebalancing (stands r [] (cancelled None)) course
+waits_cancelled r course (Some wanted) = waits_by Course.Rebalancing (stands r [] (cancelled (Some wanted))) course
 
-waits_cancelled : (r : Rebalance) (wanted : Option Reqs) → rebalance_waiting r (cancelled wanted) ≡ []
-waits_cancelled r None = refl
-waits_cancelled r (Some wanted) = refl
+order_cancel_on : (r : Job) → course_of r.kind ≡ Course.Rebalancing → (ks : List ℕ) (c : Core) → AllThere ks c.nodes → StageKept (Some (cancel_on r ks)) c
+order_cancel_on r course [] c there = order_cancelled r course r.wanted c
+order_cancel_on r course (k ∷ ks) c there = keep Course.Rebalancing _ c course (tt, goes_on k ks c.nodes there)
 
-order_cancel_on : (r : Rebalance) (ks : List ℕ) (nodes : List Node) → AllThere ks nodes → RebalanceKept (cancel_on r ks) nodes
-order_cancel_on r [] nodes there = order_cancelled (record r { todo = []; stage = cancelled r.wanted }) r.wanted nodes
-order_cancel_on r (k ∷ ks) nodes there = (tt, goes_on k ks nodes there)
+waits_cancel_on : (r : Job) → course_of r.kind ≡ Course.Rebalancing → (ks : List ℕ) → waiting (Some (cancel_on r ks)) ≡ []
+waits_cancel_on r course [] = waits_cancelled r course r.wanted
+waits_cancel_on r course (k ∷ ks) = waits_by Course.Rebalancing (cancel_on r (k ∷ ks)) course
 
-waits_cancel_on : (r : Rebalance) (ks : List ℕ) → waiting (Some (Operation.Rebalancing (cancel_on r ks))) ≡ []
-waits_cancel_on r [] = waits_cancelled (record r { todo = []; stage = cancelled r.wanted }) r.wanted
-waits_cancel_on r (k ∷ ks) = refl
+order_search_on : (r : Job) → course_of r.kind ≡ Course.Rebalancing → (refused : Bool) (c : Core) → Rising r.agreed → AllThere r.agreed c.nodes → StageKept (Some (if refused then cancel_on r r.agreed else stands r [] Stage.Searching)) c
+order_search_on r course false c g all = keep Course.Rebalancing _ c course (g, all)
+order_search_on r course true c g all = order_cancel_on r course r.agreed c all
 
-order_search_on : (r : Rebalance) (refused : Bool) (nodes : List Node) → Rising r.agreed → AllThere r.agreed nodes → RebalanceKept (search_on r refused) nodes
-order_search_on r false nodes g all = (g, all)
-order_search_on r true nodes g all = order_cancel_on r r.agreed nodes all
+waits_search_on : (r : Job) → course_of r.kind ≡ Course.Rebalancing → (refused : Bool) → waiting (Some (if refused then cancel_on r r.agreed else stands r [] Stage.Searching)) ≡ []
+waits_search_on r course false = waits_by Course.Rebalancing (stands r [] Stage.Searching) course
+waits_search_on r course true = waits_cancel_on r course r.agreed
 
-waits_search_on : (r : Rebalance) (refused : Bool) → waiting (Some (Operation.Rebalancing (search_on r refused))) ≡ []
-waits_search_on r false = refl
-waits_search_on r true = waits_cancel_on r r.agreed
+pub order_ask_on : (r : Job) → course_of r.kind ≡ Course.Rebalancing → (ks : List ℕ) (c : Core) → Ordered ks r.agreed → AllThere ks c.nodes → AllThere r.agreed c.nodes → StageKept (Some (ask_on r ks)) c
+order_ask_on r course [] c g there all = order_search_on r course (has_refused r) c g.rising all
+order_ask_on r course (k ∷ ks) c g there all = keep Course.Rebalancing _ c course (g, (goes_on k ks c.nodes there, all))
 
-pub order_ask_on : (r : Rebalance) (ks : List ℕ) (nodes : List Node) → Ordered ks r.agreed → AllThere ks nodes → AllThere r.agreed nodes → RebalanceKept (ask_on r ks) nodes
-order_ask_on r [] nodes g there all = order_search_on r (has_refused r) nodes g.rising all
-order_ask_on r (k ∷ ks) nodes g there all = (g, (goes_on k ks nodes there, all))
+pub waits_ask_on : (r : Job) → course_of r.kind ≡ Course.Rebalancing → (ks : List ℕ) → waiting (Some (ask_on r ks)) ≡ []
+waits_ask_on r course [] = waits_search_on r course (has_refused r)
+waits_ask_on r course (k ∷ ks) = waits_by Course.Rebalancing (ask_on r (k ∷ ks)) course
 
-pub waits_ask_on : (r : Rebalance) (ks : List ℕ) → waiting (Some (Operation.Rebalancing (ask_on r ks))) ≡ []
-waits_ask_on r [] = waits_search_on r (has_refused r)
-waits_ask_on r (k ∷ ks) = refl
+order_stop_on : (r : Job) → course_of r.kind ≡ Course.Rebalancing → (ks : List ℕ) (c : Core) → Rising r.agreed → AllThere ks c.nodes → AllThere r.agreed c.nodes → StageKept (Some (stop_on r ks)) c
+order_stop_on r course [] c g there all = keep Course.Rebalancing _ c course (g, all)
+order_stop_on r course (k ∷ ks) c g there all = keep Course.Rebalancing _ c course (g, (goes_on k ks c.nodes there, all))
 
-order_stop_on : (r : Rebalance) (ks : List ℕ) (nodes : List Node) → Rising r.agreed → AllThere ks nodes → AllThere r.agreed nodes → RebalanceKept (stop_on r ks) nodes
-order_stop_on r [] nodes g there all = (g, all)
-order_stop_on r (k ∷ ks) nodes g there all = (g, (goes_on k ks nodes there, all))
+waits_stop_on : (r : Job) → course_of r.kind ≡ Course.Rebalancing → (ks : List ℕ) → waiting (Some (stop_on r ks)) ≡ r.agreed
+waits_stop_on r course [] = waits_by Course.Rebalancing (stop_on r []) course
+waits_stop_on r course (k ∷ ks) = waits_by Course.Rebalancing (stop_on r (k ∷ ks)) course
 
-waits_stop_on : (r : Rebalance) (ks : List ℕ) → waiting (Some (Operation.Rebalancing (stop_on r ks))) ≡ r.agreed
-waits_stop_on r [] = refl
-waits_stop_on r (k ∷ ks) = refl
+-- `restarts r ks` gives each of them a START walk
+abbrev restarts : Job → List ℕ → Job
+restarts r ks = each_gets Minor.Start Stage.Restarting r ks (stands r [] Stage.Ending)
 
-order_restart_from : (r : Rebalance) (ks : List ℕ) (nodes : List Node) → Rising ks → AllThere ks nodes → RebalanceKept (restart_from r ks) nodes
-order_restart_from r [] nodes g there = (tt, tt)
-order_restart_from r (k ∷ ks) nodes g there = (g, goes_on k ks nodes there)
+order_restart_from : (r : Job) → course_of r.kind ≡ Course.Rebalancing → (ks : List ℕ) (c : Core) → Rising ks → AllThere ks c.nodes → StageKept (Some (restarts r ks)) c
+order_restart_from r course [] c g there = keep Course.Rebalancing _ c course (tt, tt)
+order_restart_from r course (k ∷ ks) c g there = keep Course.Rebalancing _ c course (g, goes_on k ks c.nodes there)
 
-waits_restart_from : (r : Rebalance) (ks : List ℕ) → waiting (Some (Operation.Rebalancing (restart_from r ks))) ≡ ks
-waits_restart_from r [] = refl
-waits_restart_from r (k ∷ ks) = refl
+waits_restart_from : (r : Job) → course_of r.kind ≡ Course.Rebalancing → (ks : List ℕ) → waiting (Some (restarts r ks)) ≡ ks
+waits_restart_from r course [] = waits_by Course.Rebalancing (restarts r []) course
+waits_restart_from r course (k ∷ ks) = waits_by Course.Rebalancing (restarts r (k ∷ ks)) course
 
 due_wider : (rest next : List ℕ) (tasks : List Task) (nodes : List Node) → ((k : ℕ) → has rest k ≡ true → has next k ≡ true) → DueBut rest tasks nodes → DueBut next tasks nodes
 due_wider rest next tasks nodes wider due = due_still rest next tasks tasks nodes nodes refl (leads_same tasks) wider due
@@ -112,10 +114,10 @@ all_calm todo nodes each k n at = by_test (has todo k) refl
     by_test true e = stopped_calm n.state (let here = each k n at in grind (arith))
     by_test false e = let here = each k n at in grind (arith)
 
-not_root : (s : State) (next : ℕ) (p : Option Operation) → Good next s.core.nodes [] p → (k : ℕ) (n : Node) → node_at k s.core.nodes ≡ Some n → n.state ≡ Stopped → k ≢ 0
+not_root : (s : State) (next : ℕ) (p : Option Job) → Good next s.core.nodes [] p → (k : ℕ) (n : Node) → node_at k s.core.nodes ≡ Some n → n.state ≡ Stopped → k ≢ 0
 not_root s next p good k n at e = λ z. let root = (good.stacks k n at).root z in cc
 
-pub commits_alike : (serials : List ℕ) (r : Rebalance) (n : Node) → Alike n (committed r.wanted r.target serials (plan_of r.found) n)
+pub commits_alike : (serials : List ℕ) (r : Job) (n : Node) → Alike n (committed r.wanted r.target serials (plan_of r.found) n)
 commits_alike serials r n = record { serial = refl; parent = refl; path = refl; born = refl; idle = λ h. h; bare = λ h. h }
 
 -- the states of others as the head is started again
@@ -136,86 +138,87 @@ first_leads k tasks = grind (arith, nat_tests)
 own_due : (tasks : List Task) (nodes : List Node) (k : ℕ) → has (leads tasks) k ≡ true → is_due tasks nodes k ≡ true
 own_due tasks nodes k h = grind (arith, nat_tests)
 
-module _ (s : State) (r : Rebalance) (good : Good s.next_serial s.core.nodes [] (Some (Operation.Rebalancing r))) (told : Told s.core) (h : Stands s) where
+module _ (s : State) (r : Job) (course : course_of r.kind ≡ Course.Rebalancing) (good : Good s.next_serial s.core.nodes [] (Some r)) (told : Told s.core) (h : Stands s) where
   re_work : (node : Node) → first_node s.core.nodes r.todo ≡ Some node → has r.todo 0 ≡ false → Work s node r.todo
   re_work node first rootless =
       let found = head_found s.core.nodes r.todo node first in
       record { head = found.0; at = found.1; up = rootless_head node.serial r.todo found.0 rootless; order = good.serials; stacks = good.stacks }
 
-  re_searched : (found : Found) → OrderKept r Searching → RebalanceThere r Searching s.core.nodes → DueBut [] s.tasks s.core.nodes → Sound s (rebalance_lifted s (searched s.core r found))
+  re_searched : (found : Found) → OrderKept r Stage.Searching → RebalanceThere r Stage.Searching s.core.nodes → DueBut [] s.tasks s.core.nodes → Sound s (job_lifted s (searched s.core r found))
   re_searched (assignment plan) order there due =
-      op_still s _ _ r.agreed tt refl refl refl refl (λ same. order_stop_on (record r { found = assignment plan }) (reverse r.agreed) _ order (reverse_there r.agreed s.core.nodes there) there) (waits_stop_on (record r { found = assignment plan }) (reverse r.agreed))
+      op_still s _ _ r.agreed tt refl refl refl refl (λ same. order_stop_on (record r { found = assignment plan }) course (reverse r.agreed) _ order (reverse_there r.agreed s.core.nodes there) there) (waits_stop_on (record r { found = assignment plan }) course (reverse r.agreed))
       (due_wider [] r.agreed s.tasks s.core.nodes (nothing_has r.agreed) due) h
-  re_searched no_fit order there due = op_still s _ _ [] tt refl refl refl refl (λ same. order_cancel_on (record r { found = no_fit }) r.agreed _ there) (waits_cancel_on (record r { found = no_fit }) r.agreed) due h
-  re_searched spent order there due = op_still s _ _ [] tt refl refl refl refl (λ same. order_cancel_on (record r { found = spent }) r.agreed _ there) (waits_cancel_on (record r { found = spent }) r.agreed) due h
+  re_searched no_fit order there due = op_still s _ _ [] tt refl refl refl refl (λ same. order_cancel_on (record r { found = no_fit }) course r.agreed _ there) (waits_cancel_on (record r { found = no_fit }) course r.agreed) due h
+  re_searched spent order there due = op_still s _ _ [] tt refl refl refl refl (λ same. order_cancel_on (record r { found = spent }) course r.agreed _ there) (waits_cancel_on (record r { found = spent }) course r.agreed) due h
 
-  re_closes : (found : Found) (wanted : Option Reqs) (label : Label) → IsPlain label → DueBut [] s.tasks s.core.nodes → Sound s (rebalance_lifted s (record { label = label; core = s.core; frame = r; beside = over s.core r found wanted }))
-  re_closes (assignment plan) None label plain due = by_test (stands_up s.core.nodes r.target)
+  re_closes : (found : Found) (wanted : Option Reqs) (end : OpEnd) → DueBut [] s.tasks s.core.nodes → Sound s (job_lifted s (closes s.core r end (over s.core r found wanted)))
+  re_closes (assignment plan) None end due = by_test (stands_up s.core.nodes r.target)
     where
-      by_test : (up : Bool) → Sound s (rebalance_lifted s (record { label = label; core = s.core; frame = r; beside = moved_on up }))
-      by_test true = op_still s _ label [] plain refl refl refl refl (λ same. tt) refl due h
-      by_test false = op_still s _ label [] plain refl refl refl refl (λ same. tt) refl due h
-  re_closes no_fit None label plain due = op_still s _ label [] plain refl refl refl refl (λ same. tt) refl due h
-  re_closes spent None label plain due = op_still s _ label [] plain refl refl refl refl (λ same. tt) refl due h
-  re_closes (assignment plan) (Some wanted) label plain due = op_still s _ label [] plain refl refl refl refl (λ same. tt) refl due h
-  re_closes no_fit (Some wanted) label plain due = op_still s _ label [] plain refl refl refl refl (λ same. tt) refl due h
-  re_closes spent (Some wanted) label plain due = op_still s _ label [] plain refl refl refl refl (λ same. tt) refl due h
+      by_test : (up : Bool) → Sound s (job_lifted s (closes s.core r end (if up then Beside.OverStart else Beside.Over)))
+      by_test true = op_still s _ _ [] tt refl refl refl refl (λ same. tt) refl due h
+      by_test false = op_still s _ _ [] tt refl refl refl refl (λ same. tt) refl due h
+  re_closes no_fit None end due = op_still s _ _ [] tt refl refl refl refl (λ same. tt) refl due h
+  re_closes spent None end due = op_still s _ _ [] tt refl refl refl refl (λ same. tt) refl due h
+  re_closes (assignment plan) (Some wanted) end due = op_still s _ _ [] tt refl refl refl refl (λ same. tt) refl due h
+  re_closes no_fit (Some wanted) end due = op_still s _ _ [] tt refl refl refl refl (λ same. tt) refl due h
+  re_closes spent (Some wanted) end due = op_still s _ _ [] tt refl refl refl refl (λ same. tt) refl due h
 
-  pub sound_rebalance : (stage : RebalanceStage) (m : RebalanceMove) → RebalanceKeeps r stage s.core.nodes → OrderKept r stage → RebalanceThere r stage s.core.nodes → DueBut (rebalance_waiting r stage) s.tasks s.core.nodes → RebalanceStep s.core r stage m → Sound s (rebalance_lifted s m)
+  pub sound_rebalance : (stage : Stage) (m : JobMove) → RebalanceKeeps r stage s.core.nodes → OrderKept r stage → RebalanceThere r stage s.core.nodes → DueBut (rebalance_waiting r stage) s.tasks s.core.nodes → RebalanceStep s.core r stage m → Sound s (job_lifted s m)
   sound_rebalance stage m keeps order there due (RebalanceStep.agrees node w e ok) =
       let work = re_work node e.first keeps.rootless in
       let state = head_started r.todo r.agreed node.serial node.state (head_has node.serial r.todo work.head) (keeps.each node.serial node work.at) in
       op_walk s _ node r.todo [] Minor.QueryStop false Started StopPending work state refl refl refl refl (λ q. absurd (cc)) (λ q. cc) (λ q. cc) query_stop
-      (λ same. order_ask_on (record r { agreed = node.serial ∷ r.agreed }) (rest r.todo) _ (ordered_agreed node.serial r.todo r.agreed work.head order)
+      (λ same. order_ask_on (record r { agreed = node.serial ∷ r.agreed }) course (rest r.todo) _ (ordered_agreed node.serial r.todo r.agreed work.head order)
       (same_there (rest r.todo) s.core _ same (rest_there r.todo s.core.nodes there.0.there))
-      (more_there node.serial r.agreed (with_state StopPending node) _ (now_at node.serial (with_state StopPending) node s.core.nodes (λ x. refl) work.at) (same_there r.agreed s.core _ same there.1))) (waits_ask_on (record r { agreed = node.serial ∷ r.agreed }) (rest r.todo)) due h
+      (more_there node.serial r.agreed (with_state StopPending node) _ (now_at node.serial (with_state StopPending) node s.core.nodes (λ x. refl) work.at) (same_there r.agreed s.core _ same there.1))) (waits_ask_on (record r { agreed = node.serial ∷ r.agreed }) course (rest r.todo)) due h
   sound_rebalance stage m keeps order there due (RebalanceStep.refuses node w e bad) =
       let work = re_work node e.first keeps.rootless in
       let state = head_started r.todo r.agreed node.serial node.state (head_has node.serial r.todo work.head) (keeps.each node.serial node work.at) in
       op_walk s _ node r.todo [] Minor.QueryStop true Started node.state work state refl refl refl refl (λ q. ap is_idle (sym state) ∙ q) (started_stays node.state state).0 (started_stays node.state state).1 (subst (λ (x : DevState). Row Started Minor.QueryStop true x) (sym state) query_stop_bad)
-      (λ same. (order, (same_goes r.todo s.core _ same there.0, same_there r.agreed s.core _ same there.1))) refl due h
+      (λ same. keep Course.Rebalancing _ _ course (order, (same_goes r.todo s.core _ same there.0, same_there r.agreed s.core _ same there.1))) (waits_by Course.Rebalancing (answers r node true) course) due h
   sound_rebalance stage m keeps order there due (RebalanceStep.takes_back node w e) =
       let work = re_work node e.first keeps.rootless in
       let state = head_started r.todo r.agreed node.serial node.state (head_has node.serial r.todo work.head) (keeps.each node.serial node work.at) in
       let more = those (is_not_above s.core.nodes node.serial) (rest r.todo) in
       op_walk s _ node r.todo [] Minor.CancelStop false Started Started work state refl refl refl refl (λ q. absurd (cc)) (λ q. cc) (λ q. cc) cancel_stop_refused
-      (λ same. order_ask_on r more _ (ordered_fewer (is_not_above s.core.nodes node.serial) node.serial r.todo r.agreed work.head order)
+      (λ same. order_ask_on r course more _ (ordered_fewer (is_not_above s.core.nodes node.serial) node.serial r.todo r.agreed work.head order)
       (same_there more s.core _ same (those_there (is_not_above s.core.nodes node.serial) (rest r.todo) s.core.nodes (rest_there r.todo s.core.nodes there.0.there)))
-      (same_there r.agreed s.core _ same there.1)) (waits_ask_on r more) due h
-  sound_rebalance stage m keeps order there due (RebalanceStep.searches found budget answer) = re_searched found order there due
+      (same_there r.agreed s.core _ same there.1)) (waits_ask_on r course more) due h
+  sound_rebalance stage m keeps order there due (RebalanceStep.acts _ _ (RebalanceAct.searches found budget answer)) = re_searched found order there due
   sound_rebalance stage m keeps order there due (RebalanceStep.cancels node w e) =
       let work = re_work node e.first keeps.rootless in
       let state = head_pending r.todo node.serial node.state (head_has node.serial r.todo work.head) (keeps.each node.serial node work.at) in
       op_walk s _ node r.todo [] Minor.CancelStop false StopPending Started work state refl refl refl refl (λ q. absurd (cc)) (λ q. cc) (λ q. cc) cancel_stop
-      (λ same. order_cancel_on r (rest r.todo) _ (same_there (rest r.todo) s.core _ same (rest_there r.todo s.core.nodes there.there))) (waits_cancel_on r (rest r.todo)) due h
-  sound_rebalance stage m keeps order there due RebalanceStep.sticks =
+      (λ same. order_cancel_on r course (rest r.todo) _ (same_there (rest r.todo) s.core _ same (rest_there r.todo s.core.nodes there.there))) (waits_cancel_on r course (rest r.todo)) due h
+  sound_rebalance stage m keeps order there due (RebalanceStep.acts _ _ RebalanceAct.sticks) =
       let there = target_there r.wanted r.target s.core.nodes keeps.waits in
       let node = there.0 in
       let at = there.1 in
       let f = with_problem (Some (trouble_of r.found)) in
-      let t = (rebalance_lifted s (stuck s.core r)).state in
+      let t = (job_lifted s (stuck s.core r)).state in
       let same = same_changed s.core t.core r.target f node refl refl (λ x. refl) at (problem_alike node (Some (trouble_of r.found))) in
-      sound_same s t (Label.Trouble r.path (trouble_of r.found)) tt same refl h.up (tt, tt)
-      (due_changed [] [] s.tasks s.tasks s.core.nodes t.core.nodes r.target f node refl (λ x. refl) at (nodes_same s.core t.core same) (leads_same s.tasks) (λ q. inl q) (λ k q. inl q) due) h
+      sound_same s t (Label.Trouble r.path (trouble_of r.found)) tt same refl h.up (keep Course.Rebalancing (stands r [] Stage.Ending) t.core course (tt, tt))
+      (subst (λ (x : List ℕ). DueBut x s.tasks t.core.nodes) (sym (waits_by Course.Rebalancing (stands r [] Stage.Ending) course))
+      (due_changed [] [] s.tasks s.tasks s.core.nodes t.core.nodes r.target f node refl (λ x. refl) at (nodes_same s.core t.core same) (leads_same s.tasks) (λ q. inl q) (λ k q. inl q) due)) h
   sound_rebalance stage m keeps order there due (RebalanceStep.stops node w e) =
       let work = re_work node e.first keeps.rootless in
       let here = head_has node.serial r.todo work.head in
       let state = head_stopping r.todo r.agreed node.serial node.state here (keeps.each node.serial node work.at) in
-      let t = (rebalance_lifted s (stop_step s.core r node w true)).state in
+      let t = (job_lifted s (ended_by s.core node Minor.Stop false (stop_on r (rest r.todo)))).state in
       let same = same_state s t node r.todo Stopped work refl refl (λ q. absurd (cc)) (λ q. absurd (cc)) in
       sound_walk s t node Minor.Stop false Stopped refl same refl work.at (λ q. cc) (subst (λ (x : DevState). Row x Minor.Stop false Stopped) (sym state) stop) h.up
-      (order_stop_on r (rest r.todo) t.core.nodes order (same_there (rest r.todo) s.core t.core same (rest_there r.todo s.core.nodes there.0.there)) (same_there r.agreed s.core t.core same there.1))
-      (subst (λ (ks : List ℕ). DueBut ks s.tasks t.core.nodes) (sym (waits_stop_on r (rest r.todo)))
+      (order_stop_on r course (rest r.todo) t.core order (same_there (rest r.todo) s.core t.core same (rest_there r.todo s.core.nodes there.0.there)) (same_there r.agreed s.core t.core same there.1))
+      (subst (λ (ks : List ℕ). DueBut ks s.tasks t.core.nodes) (sym (waits_stop_on r course (rest r.todo)))
       (due_changed r.agreed r.agreed s.tasks s.tasks s.core.nodes t.core.nodes node.serial (with_state Stopped) node refl (λ x. refl) work.at (nodes_same s.core t.core same) (leads_same s.tasks)
       (λ q. inr (keeps.asks node.serial here)) (λ k q. inl q) due)) h
-  sound_rebalance stage m keeps order there due RebalanceStep.commits =
+  sound_rebalance stage m keeps order there due (RebalanceStep.acts _ _ RebalanceAct.commits) =
       let f = committed r.wanted r.target (movers r) (plan_of r.found) in
-      let t = (rebalance_lifted s (commit_step s.core r)).state in
+      let t = (job_lifted s (commit_step s.core r)).state in
       let same = same_mapped s.core t.core f refl refl (commits_alike (movers r) r) in
       let ks = startable s.core.nodes r.agreed in
       let now = due_restart s.tasks s.core r.agreed h.tree.root h.tree.rooted h.tree.idle told (all_calm r.agreed s.core.nodes keeps.each) (not_root s s.next_serial _ good) order due in
-      sound_same s t (Label.Commit (length (movers r))) tt same refl h.up (order_restart_from r ks t.core.nodes (rising_startable s.core.nodes r.agreed order) (same_there ks s.core t.core same (startable_there s.core.nodes r.agreed s.core.nodes there)))
-      (subst (λ (x : List ℕ). DueBut x s.tasks t.core.nodes) (sym (waits_restart_from r ks))
+      sound_same s t (Label.Commit (length (movers r))) tt same refl h.up (order_restart_from r course ks t.core (rising_startable s.core.nodes r.agreed order) (same_there ks s.core t.core same (startable_there s.core.nodes r.agreed s.core.nodes there)))
+      (subst (λ (x : List ℕ). DueBut x s.tasks t.core.nodes) (sym (waits_restart_from r course ks))
       (due_same ks ks s.tasks s.tasks s.core.nodes t.core.nodes (nodes_same s.core t.core same) (leads_same s.tasks)
       (λ k n m was at stopped.
       let old = map_from k f s.core.nodes m (λ x. refl) at in
@@ -225,14 +228,15 @@ module _ (s : State) (r : Rebalance) (good : Good s.next_serial s.core.nodes [] 
   sound_rebalance stage m keeps order there due (RebalanceStep.fails node w e bad) =
       let work = re_work node e.first keeps.rootless in
       let state = head_stopped r.todo node.serial node.state (head_has node.serial r.todo work.head) (keeps.each node.serial node work.at) in
-      let t = (rebalance_lifted s (end_restart s.core r node true)).state in
+      let t = (job_lifted s (ended_by s.core node Minor.Start true (after_restart s.core r node true))).state in
       let same = same_state s t node r.todo node.state work refl refl (λ q. q) (λ q. q) in
-      sound_walk s t node Minor.Start true node.state refl same refl work.at (λ q. let z = state in cc) (subst (λ (x : DevState). Row x Minor.Start true x) (sym state) restart_bad) h.up (order, same_goes r.todo s.core t.core same there)
-      (due_changed r.todo r.todo s.tasks s.tasks s.core.nodes t.core.nodes node.serial (with_state node.state) node refl (λ x. refl) work.at (nodes_same s.core t.core same) (leads_same s.tasks) (λ q. inl q) (λ k q. inl q) due) h
+      sound_walk s t node Minor.Start true node.state refl same refl work.at (λ q. let z = state in cc) (subst (λ (x : DevState). Row x Minor.Start true x) (sym state) restart_bad) h.up (keep Course.Rebalancing (stands r r.todo Stage.Failed) t.core course (order, same_goes r.todo s.core t.core same there))
+      (subst (λ (x : List ℕ). DueBut x s.tasks t.core.nodes) (sym (waits_by Course.Rebalancing (stands r r.todo Stage.Failed) course))
+      (due_changed r.todo r.todo s.tasks s.tasks s.core.nodes t.core.nodes node.serial (with_state node.state) node refl (λ x. refl) work.at (nodes_same s.core t.core same) (leads_same s.tasks) (λ q. inl q) (λ k q. inl q) due)) h
   sound_rebalance stage m keeps order there due (RebalanceStep.restarts node w e ok) =
       let work = re_work node e.first keeps.rootless in
       let state = head_stopped r.todo node.serial node.state (head_has node.serial r.todo work.head) (keeps.each node.serial node work.at) in
-      let t = (rebalance_lifted s (end_restart s.core r node false)).state in
+      let t = (job_lifted s (ended_by s.core node Minor.Start false (after_restart s.core r node false))).state in
       let same = same_state s t node r.todo Started work refl refl (λ q. absurd (cc)) (λ q. absurd (cc)) in
       let tree = tree_same s.next_serial s.core t.core same h.tree in
       let ks = rest r.todo in
@@ -247,11 +251,11 @@ module _ (s : State) (r : Rebalance) (good : Good s.next_serial s.core.nodes [] 
       let told_now = told_walked s.core node.serial Started node told work.at (λ q. let z = state in cc) (λ q. cc) in
       let now = due_restart s.tasks t.core ks tree.root tree.rooted tree.idle told_now (rest_calm r.todo s.core.nodes keeps.each node.serial (with_state Started) node (λ x. refl) work.at refl) up (rising_rest r.todo order) left in
       sound_walk s t node Minor.Start false Started refl same refl work.at (λ q. cc) (subst (λ (x : DevState). Row x Minor.Start false Started) (sym state) restart) h.up
-      (order_restart_from r (startable t.core.nodes ks) t.core.nodes (rising_startable t.core.nodes ks (rising_rest r.todo order)) (startable_there t.core.nodes ks t.core.nodes (same_there ks s.core t.core same (rest_there r.todo s.core.nodes there.there))))
-      (subst (λ (x : List ℕ). DueBut x s.tasks t.core.nodes) (sym (waits_restart_from r (startable t.core.nodes ks))) now) h
-  sound_rebalance stage m keeps order there due (RebalanceStep.failed node first) =
+      (order_restart_from r course (startable t.core.nodes ks) t.core (rising_startable t.core.nodes ks (rising_rest r.todo order)) (startable_there t.core.nodes ks t.core.nodes (same_there ks s.core t.core same (rest_there r.todo s.core.nodes there.there))))
+      (subst (λ (x : List ℕ). DueBut x s.tasks t.core.nodes) (sym (waits_restart_from r course (startable t.core.nodes ks))) now) h
+  sound_rebalance stage m keeps order there due (RebalanceStep.acts _ _ (RebalanceAct.failed node first)) =
       let work = re_work node first keeps.rootless in
-      let t = (rebalance_lifted s (failed s.core r node)).state in
+      let t = (job_lifted s (failed s.core r node)).state in
       let f = with_problem (Some Problem.FailedStart) in
       let same = same_changed s.core t.core node.serial f node refl refl (λ x. refl) work.at (problem_alike node (Some Problem.FailedStart)) in
       let ks = rest r.todo in
@@ -268,7 +272,7 @@ module _ (s : State) (r : Rebalance) (good : Good s.next_serial s.core.nodes [] 
       let now = due_restart t.tasks s.core ks h.tree.root h.tree.rooted h.tree.idle told (all_calm r.todo s.core.nodes keeps.each) (not_root s s.next_serial _ good) (rising_rest r.todo order) left in
       let todo = startable s.core.nodes ks in
       sound_same s t (Label.Trouble node.path Problem.FailedStart) tt same refl (work.up, h.up)
-      (order_restart_from r todo t.core.nodes (rising_startable s.core.nodes ks (rising_rest r.todo order)) (same_there todo s.core t.core same (startable_there s.core.nodes ks s.core.nodes (rest_there r.todo s.core.nodes there.there))))
-      (subst (λ (x : List ℕ). DueBut x t.tasks t.core.nodes) (sym (waits_restart_from r todo))
+      (order_restart_from r course todo t.core (rising_startable s.core.nodes ks (rising_rest r.todo order)) (same_there todo s.core t.core same (startable_there s.core.nodes ks s.core.nodes (rest_there r.todo s.core.nodes there.there))))
+      (subst (λ (x : List ℕ). DueBut x t.tasks t.core.nodes) (sym (waits_restart_from r course todo))
       (due_changed todo todo t.tasks t.tasks s.core.nodes t.core.nodes node.serial f node refl (λ x. refl) work.at (nodes_same s.core t.core same) (leads_same t.tasks) (λ q. inl q) (λ k q. inl q) now)) h
-  sound_rebalance stage m keeps order there due RebalanceStep.closes = re_closes r.found r.wanted (Label.End (kind_of r.wanted) r.path (result r.found (has_refused r))) tt due
+  sound_rebalance stage m keeps order there due (RebalanceStep.acts _ _ RebalanceAct.closes) = re_closes r.found r.wanted (result r.found (has_refused r)) due

@@ -4,7 +4,7 @@ use Rattle.std.specs.List.{list_any}
 use Rattle.std.proofs.lemmas.Bool.Decides.{nat_tests}
 use Rattle.pnp_model.specs.Keyed.{changed_first}
 use Rattle.pnp_model.specs.Tests.{has}
-use Rattle.pnp_model.specs.Records.{Node, Core, Phase, State, Operation, Duty, Task}
+use Rattle.pnp_model.specs.Records.{Node, Core, Phase, State, Duty, Task, Job}
 use Rattle.pnp_model.specs.Cores.{is_node, node_at, with_state, with_problem, with_stack, with_holds, stacked, strip}
 use Rattle.pnp_model.specs.Trees.{dependents, direct, hangs_on}
 use Rattle.pnp_model.specs.Starts.{StartMove, own_part}
@@ -28,14 +28,16 @@ use Rattle.pnp_laws.proofs.TreeChanges.{Alike, same_changed, nodes_same}
 use Rattle.pnp_laws.proofs.Sounds.{IsPlain, LeadsMore, leads_same, leads_pushed, up_append, due_still, due_changed, due_stripped, sound_still, sound_same, sound_walk, sound_strip}
 use Rattle.pnp_laws.proofs.Truths.{or_left}
 use Rattle.pnp_model.specs.Starts as st
+use Rattle.pnp_model.specs.Jobs.{stands}
+use Rattle.pnp_laws.proofs.FitsBy.{fit}
 
 -- no operation runs
 
-pub stage_none : (o : Option Operation) (c : Core) → o ≡ None → StageKept o c
-stage_none o c e = subst (λ (x : Option Operation). StageKept x c) (sym e) tt
+pub stage_none : (o : Option Job) (c : Core) → o ≡ None → StageKept o c
+stage_none o c e = subst (λ (x : Option Job). StageKept x c) (sym e) tt
 
-pub calm_due : (o p : Option Operation) → o ≡ None → p ≡ None → (k : ℕ) → has (waiting o) k ≡ true → has (waiting p) k ≡ true
-calm_due o p e f k h = absurd (let g = subst (λ (x : Option Operation). has (waiting x) k ≡ true) e h in cc)
+pub calm_due : (o p : Option Job) → o ≡ None → p ≡ None → (k : ℕ) → has (waiting o) k ≡ true → has (waiting p) k ≡ true
+calm_due o p e f k h = absurd (let g = subst (λ (x : Option Job). has (waiting x) k ≡ true) e h in cc)
 
 -- no node changes
 pub calm_still : (s t : State) (label : Label) → IsPlain label → t.core.nodes ≡ s.core.nodes → t.core.relations ≡ s.core.relations → t.next_serial ≡ s.next_serial → t.operation ≡ None → s.operation ≡ None → TasksUp t.tasks → LeadsMore s.tasks t.tasks →

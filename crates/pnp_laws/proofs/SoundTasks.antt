@@ -1,11 +1,11 @@
 -- Each task keeps the tree and what is due; where an operation begins, what it needs of the tree is there.
-use Rattle.std.proofs.Common.{ℕ, drop, ◌≡◌, ◌≢◌, ◌==◌, inl, inr, true, false, not, List, [], ◌∷◌, Option, Some, None, refl, sym, ap, ◌∙◌, subst, arith, reverse}
+use Rattle.std.proofs.Common.{ℕ, drop, ◌≡◌, ◌≢◌, ◌==◌, inl, inr, true, false, not, List, [], ◌∷◌, Option, Some, None, refl, sym, ap, ◌∙◌, subst, arith, reverse, map}
 use Rattle.std.specs.List.{slice_get}
 use Rattle.std.proofs.lemmas.Bool.Decides.{nat_tests}
 use Rattle.resource_reqs.specs.Resources.{Reqs}
 use Rattle.pnp_model.specs.Keyed.{changed_first, those}
 use Rattle.pnp_model.specs.Tests.{has, is_surprise_task}
-use Rattle.pnp_model.specs.Records.{Node, Core, Device, Task, State, Step, Operation, Duty, Rebalance, RebalanceStage, Removal, RemovalStage, Surprise, SurpriseStage}
+use Rattle.pnp_model.specs.Records.{Node, Core, Device, Task, State, Step, Duty, Course, Job, Relation, course_of}
 use Rattle.pnp_model.specs.Cores.{is_node, node_at, with_problem, add_node, serials_of}
 use Rattle.pnp_model.specs.States.{drop_task, new_child}
 use Rattle.pnp_model.specs.Trees.{above, leaving, set_of}
@@ -15,7 +15,6 @@ use Rattle.pnp_labels.specs.declared.states.Problem.{Problem}
 use Rattle.pnp_labels.specs.declared.label.OpKind.{OpKind}
 use Rattle.pnp_labels.specs.declared.label.Label.{Label}
 use Rattle.pnp_labels.specs.declared.states.DevState.TheVariants.{NoStack, Started, Stopped, SurpriseRemoved}
-use Rattle.resource_reqs.specs.Spelling.Answer.{no_fit}
 use Rattle.pnp_laws.specs.Kept.{Good, is_idle}
 use Rattle.pnp_laws.specs.Due.{leads}
 use Rattle.pnp_laws.proofs.Lookups.{own_serial, found_self, joined_from, joined_keeps, find_passes, some_same}
@@ -32,6 +31,8 @@ use Rattle.pnp_laws.proofs.Theres.{none_there, those_there, reverse_there, leavi
 use Rattle.pnp_laws.proofs.Finishes.{set_is_closed, leaving_all, finishes_begun}
 use Rattle.pnp_laws.proofs.Restarts.{above_told, ordered_begun}
 use Rattle.pnp_model.specs.Rebalances as re
+use Rattle.pnp_laws.proofs.EffectsOfOperations.{rm_ask_on}
+use Rattle.pnp_model.specs.Jobs.{job_of}
 use Rattle.pnp_model.specs.Removals as rm
 use Rattle.pnp_model.specs.Surprises as su
 use Rattle.pnp_laws.proofs.SoundRebalances as sre
@@ -55,7 +56,7 @@ due_joined next tasks more c new tree state leads due k m at stopped =
       | inr (q, r, u) ↦ absurd (let z : m.state ≡ NoStack = ap (λ (x : Node). x.state) r ∙ state in cc)
     ]
 
-calm_waits : (o : Option Operation) → o ≡ None → waiting o ≡ []
+calm_waits : (o : Option Job) → o ≡ None → waiting o ≡ []
 calm_waits o e = ap waiting e
 
 calm_none : (s : State) → s.operation ≡ None → Stands s → DueBut [] s.tasks s.core.nodes
@@ -115,32 +116,33 @@ sound_no_surprise s k label plain gone first none good h =
     (due_dropped s.tasks k [] s.core.nodes first (none_below_it s k gone good h) (calm_none s none h))) h
 
 -- an operation begins, whose task is no surprise
-sound_begin : (s : State) (kind : OpKind) (node : Node) (o : Operation) (task : Task) → slice_get s.tasks 0 ≡ Some task → is_surprise_task task.kind ≡ false → s.operation ≡ None → StageKept (Some o) s.core → waiting (Some o) ≡ [] → Stands s → Sound s (begin s kind node o)
+sound_begin : (s : State) (kind : OpKind) (node : Node) (o : Job) (task : Task) → slice_get s.tasks 0 ≡ Some task → is_surprise_task task.kind ≡ false → s.operation ≡ None → StageKept (Some o) s.core → waiting (Some o) ≡ [] → Stands s → Sound s (begin s kind node o)
 sound_begin s kind node o task first surprise none stage waits h =
     sound_still s _ (Label.Begin kind node.path) tt refl refl refl (up_drop s.tasks h.up) stage
     (subst (λ (ks : List ℕ). DueBut ks (drop 1 s.tasks) s.core.nodes) (sym waits)
     (due_still [] [] s.tasks (drop 1 s.tasks) s.core.nodes s.core.nodes refl (leads_none s.tasks (drop 1 s.tasks) task first surprise) (λ k q. q) (calm_none s none h))) h
 
-sound_rebalance : (s : State) (kind : OpKind) (node : Node) (wanted : Option Reqs) → First s (Duty.Begins kind) node.serial → is_surprise_task (Duty.Begins kind) ≡ false → s.operation ≡ None → Good s.next_serial s.core.nodes s.activities None → Stands s
-    → Sound s (begin s kind node (Operation.Rebalancing (re.begun_with s.core node wanted)))
-sound_rebalance s kind node wanted first surprise none good h =
-    let r : Rebalance = record { target = node.serial; path = node.path; wanted = wanted; todo = []; agreed = []; refused = []; found = no_fit; stage = RebalanceStage.Searching } in
+sound_rebalance : (s : State) (kind : OpKind) (node : Node) (wanted : Option Reqs) → course_of kind ≡ Course.Rebalancing → First s (Duty.Begins kind) node.serial → is_surprise_task (Duty.Begins kind) ≡ false → s.operation ≡ None → Good s.next_serial s.core.nodes s.activities None → Stands s
+    → Sound s (begin s kind node (re.begun_with s.core kind node wanted))
+sound_rebalance s kind node wanted course first surprise none good h =
+    let r : Job = record (job_of kind node) { wanted = wanted } in
     let ks = reverse (serials_of (those re.is_asked s.core.nodes)) in
     sound_begin s kind node _ _ first surprise none
-    (sre.order_ask_on r ks s.core.nodes (ordered_begun re.is_asked s.core.nodes good.serials)
+    (sre.order_ask_on r course ks s.core (ordered_begun re.is_asked s.core.nodes good.serials)
     (reverse_there (serials_of (those re.is_asked s.core.nodes)) s.core.nodes (λ i q. let f = those_found 0 re.is_asked s.core.nodes i good.serials q in (f.0, f.1)))
     (none_there s.core.nodes))
-    (sre.waits_ask_on r ks) h
+    (sre.waits_ask_on r course ks) h
 
-sound_removal : (s : State) (kind : OpKind) (node : Node) (task : Task) → slice_get s.tasks 0 ≡ Some task → is_surprise_task task.kind ≡ false → node_at node.serial s.core.nodes ≡ Some node → s.operation ≡ None → Good s.next_serial s.core.nodes s.activities None → Stands s →
-    Sound s (begin s kind node (Operation.Removing (rm.begun_removal s.core kind node)))
-sound_removal s kind node task first surprise at none good h =
+sound_removal : (s : State) (kind : OpKind) (node : Node) (task : Task) → course_of kind ≡ Course.Removing → slice_get s.tasks 0 ≡ Some task → is_surprise_task task.kind ≡ false → node_at node.serial s.core.nodes ≡ Some node → s.operation ≡ None → Good s.next_serial s.core.nodes s.activities None → Stands s →
+    Sound s (begin s kind node (rm.begun_removal s.core kind node))
+sound_removal s kind node task course first surprise at none good h =
     let set = leaving s.core node.serial in
-    let o : Removal = record { kind = kind; target = node.serial; path = node.path; set = set; ejecting = rm.ejecting s.core set; todo = []; agreed = []; refuser = None; stage = RemovalStage.Ending } in
+    let o : Job = record (job_of kind node) { set = set; ejecting = map (λ (r : Relation). r.member) (those (rm.is_ejecting set) s.core.relations) } in
+    let asked = those (λ k. rm.is_queried_node (node_at k s.core.nodes)) set in
     sound_begin s kind node _ task first surprise none
-    (srm.order_ask_on s.core.nodes o (those (λ k. rm.is_queried_node (node_at k s.core.nodes)) set) s.core (finishes_begun s.next_serial s.core node.serial node good.serials h.tree at)
+    (srm.order_ask_on s.core.nodes o course asked s.core (finishes_begun s.next_serial s.core node.serial node good.serials h.tree at)
     (those_there (λ k. rm.is_queried_node (node_at k s.core.nodes)) set s.core.nodes (leaving_there s.next_serial s.core node.serial node good.serials h.tree at))
-    (leaving_there s.next_serial s.core node.serial node good.serials h.tree at)) refl h
+    (leaving_there s.next_serial s.core node.serial node good.serials h.tree at)) (srm.removal_waits o _ course (rm_ask_on s.core.nodes o asked)) h
 
 -- what stands below the device of a surprise is in its set
 below_it : (s : State) (k : ℕ) (node : Node) → node_at k s.core.nodes ≡ Some node → Good s.next_serial s.core.nodes s.activities None → Stands s → (i : ℕ) (n : Node) → node_at i s.core.nodes ≡ Some n → n.state ≡ Stopped → has (i ∷ above s.core.nodes i) k ≡ true → has (leaving s.core k) i ≡ true
@@ -154,18 +156,18 @@ below_it s k node at_k good h i n at stopped below =
     ])
 
 sound_surprise : (s : State) (node : Node) (k : ℕ) → slice_get s.tasks 0 ≡ Some (record { kind = Duty.Begins OpKind.Surprise; serial = k }) → node_at k s.core.nodes ≡ Some node → s.operation ≡ None → Good s.next_serial s.core.nodes s.activities None → Stands s →
-    Sound s (begin s OpKind.Surprise node (Operation.Surprising (su.begun_surprise s.core node)))
+    Sound s (begin s OpKind.Surprise node (su.begun_surprise s.core node))
 sound_surprise s node k first at none good h =
     let own = own_serial k node s.core.nodes at in
     let set = leaving s.core node.serial in
-    let o : Surprise = record { target = node.serial; path = node.path; set = set; told = those (λ k. was_told (node_at k s.core.nodes)) set; behind = []; todo = []; stage = SurpriseStage.Ending } in
+    let o : Job = record (job_of OpKind.Surprise node) { set = set; told = those (λ k. was_told (node_at k s.core.nodes)) set } in
     let told = those (λ k. su.is_told_node (node_at k s.core.nodes)) set in
     sound_still s _ (Label.Begin OpKind.Surprise node.path) tt refl refl refl (up_drop s.tasks h.up)
-    (srm.order_tell_on o told s.core refl (finishes_begun s.next_serial s.core node.serial node good.serials h.tree (found_self k s.core.nodes node at))
+    (srm.order_tell_on o refl told s.core refl (finishes_begun s.next_serial s.core node.serial node good.serials h.tree (found_self k s.core.nodes node at))
     (those_there (λ k. su.is_told_node (node_at k s.core.nodes)) set s.core.nodes (leaving_there s.next_serial s.core node.serial node good.serials h.tree (found_self k s.core.nodes node at)))
     (leaving_there s.next_serial s.core node.serial node good.serials h.tree (found_self k s.core.nodes node at))
     (leaving_all h.tree.rank s.core node.serial node.serial good.serials h.tree.ranked (closed_keeps s.core (node.serial ∷ []) node.serial node good.serials (found_self k s.core.nodes node at) (grind (arith, nat_tests)))))
-    (subst (λ (ks : List ℕ). DueBut ks (drop 1 s.tasks) s.core.nodes) (sym (srm.waits_tell_on o told))
+    (subst (λ (ks : List ℕ). DueBut ks (drop 1 s.tasks) s.core.nodes) (sym (srm.waits_tell_on o refl told))
     (due_dropped s.tasks k set s.core.nodes first
     (λ i n there stopped below. subst (λ (x : ℕ). has (leaving s.core x) i ≡ true) (sym own) (below_it s k node at good h i n there stopped below)) (calm_none s none h))) h
 
@@ -201,9 +203,9 @@ sound_task s _ none good told h (TaskStep.finds_gone node child gone) =
 sound_task s _ none good told h (TaskStep.joins node d at up below) = sound_join s node d (find_passes (joins node.born s.core.nodes) s.world d below) at up none good h
 sound_task s _ none good told h (TaskStep.troubles node problem b fine) = sound_started s _ (Label.Trouble node.path problem) node (Some problem) tt refl refl refl refl refl none b h
 sound_task s _ none good told h (TaskStep.installs node rank driver drivers b chosen) = sound_started s _ _ node None tt refl refl refl refl refl none b h
-sound_task s _ none good told h (TaskStep.begins OpKind.Rebalance node first alone at fits) = sound_rebalance s OpKind.Rebalance node None first refl none good h
-sound_task s _ none good told h (TaskStep.begins OpKind.Disable node first alone at fits) = sound_removal s OpKind.Disable node _ first refl at none good h
-sound_task s _ none good told h (TaskStep.begins OpKind.Eject node first alone at fits) = sound_removal s OpKind.Eject node _ first refl at none good h
+sound_task s _ none good told h (TaskStep.begins OpKind.Rebalance node first alone at fits) = sound_rebalance s OpKind.Rebalance node None refl first refl none good h
+sound_task s _ none good told h (TaskStep.begins OpKind.Disable node first alone at fits) = sound_removal s OpKind.Disable node _ refl first refl at none good h
+sound_task s _ none good told h (TaskStep.begins OpKind.Eject node first alone at fits) = sound_removal s OpKind.Eject node _ refl first refl at none good h
 sound_task s _ none good told h (TaskStep.begins OpKind.Surprise node first alone at fits) = sound_surprise s node node.serial first at none good h
 sound_task s _ none good told h (TaskStep.begins OpKind.Finish node first alone at fits) = sound_begin s OpKind.Finish node _ _ first refl none (tt, tt) refl h
-sound_task s _ none good told h (TaskStep.begins OpKind.Change node first alone at fits) = sound_rebalance s OpKind.Change node (Some _) first refl none good h
+sound_task s _ none good told h (TaskStep.begins OpKind.Change node first alone at fits) = sound_rebalance s OpKind.Change node (Some _) refl first refl none good h

@@ -1,7 +1,7 @@
 -- What each state of a run keeps of the tree, the relations and the tasks.
-use Rattle.std.proofs.Common.{ℕ, ◌<◌, ◌≡◌, ◌≢◌, ◌⊎◌, true, false, List, [], ◌∷◌, Option, Some, None}
+use Rattle.std.proofs.Common.{ℕ, ◌<◌, ◌≡◌, ◌≢◌, ◌⊎◌, true, false, List, [], ◌∷◌, Option, Some, None, refl, ap, sym, subst}
 use Rattle.pnp_model.specs.Tests.{has}
-use Rattle.pnp_model.specs.Records.{Node, Core, Task, State, Step, Duty, Operation, Rebalance, RebalanceStage, Removal, RemovalStage, Surprise, SurpriseStage, Finish, FinishStage, Handle}
+use Rattle.pnp_model.specs.Records.{Node, Core, Task, State, Step, Duty, Handle, Course, Job, Stage, Walk, course_of}
 use Rattle.pnp_model.specs.Cores.{node_at}
 use Rattle.pnp_model.specs.Handles.{is_open}
 use Rattle.pnp_model.specs.Trees.{hangs_on}
@@ -59,18 +59,21 @@ abbrev pub DueBut : List ℕ → List Task → List Node → Type 0
 DueBut rest tasks nodes =
     (k : ℕ) (n : Node) → node_at k nodes ≡ Some n → n.state ≡ Stopped → (is_due tasks nodes k ≡ true) ⊎ (has rest k ≡ true)
 
-abbrev pub rebalance_waiting : Rebalance → RebalanceStage → List ℕ
-rebalance_waiting r (RebalanceStage.Stopping w) = r.agreed
-rebalance_waiting r RebalanceStage.Committing = r.agreed
-rebalance_waiting r (RebalanceStage.Restarting w) = r.todo
-rebalance_waiting r RebalanceStage.Failed = r.todo
-rebalance_waiting r RebalanceStage.Ending = []
+abbrev pub rebalance_waiting : Job → Stage → List ℕ
+rebalance_waiting r Stage.Stopping = r.agreed
+rebalance_waiting r Stage.Committing = r.agreed
+rebalance_waiting r Stage.Restarting = r.todo
+rebalance_waiting r Stage.Failed = r.todo
 rebalance_waiting r _ = []
 
-abbrev pub waiting : Option Operation → List ℕ
-waiting (Some (Operation.Rebalancing r)) = rebalance_waiting r r.stage
-waiting (Some (Operation.Surprising o)) = o.set
-waiting _ = []
+abbrev pub waiting_in : Course → Job → List ℕ
+waiting_in Course.Rebalancing r = rebalance_waiting r r.stage
+waiting_in Course.Surprising o = o.set
+waiting_in _ o = []
+
+abbrev pub waiting : Option Job → List ℕ
+waiting None = []
+waiting (Some o) = waiting_in (course_of o.kind) o
 
 -- those still to ask fall, and are below those that agreed, which rise
 pub record Ordered (todo agreed : List ℕ) : Type 0 where
@@ -78,17 +81,15 @@ pub record Ordered (todo agreed : List ℕ) : Type 0 where
   pub rising : Rising agreed
   pub over : (j k : ℕ) → has todo j ≡ true → has agreed k ≡ true → j < k
 
-abbrev pub OrderKept : Rebalance → RebalanceStage → Type 0
-OrderKept r (RebalanceStage.Asking w) = Ordered r.todo r.agreed
-OrderKept r (RebalanceStage.TakingBack w) = Ordered r.todo r.agreed
-OrderKept r RebalanceStage.Searching = Rising r.agreed
-OrderKept r (RebalanceStage.Cancelling w) = Unit {0}
-OrderKept r RebalanceStage.Stuck = Unit {0}
-OrderKept r (RebalanceStage.Stopping w) = Rising r.agreed
-OrderKept r RebalanceStage.Committing = Rising r.agreed
-OrderKept r (RebalanceStage.Restarting w) = Rising r.todo
-OrderKept r RebalanceStage.Failed = Rising r.todo
-OrderKept r RebalanceStage.Ending = Unit {0}
+abbrev pub OrderKept : Job → Stage → Type 0
+OrderKept r Stage.Asking = Ordered r.todo r.agreed
+OrderKept r Stage.TakingBack = Ordered r.todo r.agreed
+OrderKept r Stage.Searching = Rising r.agreed
+OrderKept r Stage.Stopping = Rising r.agreed
+OrderKept r Stage.Committing = Rising r.agreed
+OrderKept r Stage.Restarting = Rising r.todo
+OrderKept r Stage.Failed = Rising r.todo
+OrderKept r _ = Unit {0}
 
 -- devices are finished one after another: of the set, those that are done have no drivers, what has its parent
 -- in the set is still to do, and nobody stands before what depends on it
@@ -106,14 +107,12 @@ pub record FinishesBut (c : Core) (set behind todo : List ℕ) : Type 0 where
   pub sorted : Sorted c todo
   pub apart : (k : ℕ) → has behind k ≡ true → has todo k ≡ false
 
-abbrev pub RemovalOrder : Core → Removal → RemovalStage → Type 0
-RemovalOrder c o RemovalStage.Next = Finishes c o.set o.set
-RemovalOrder c o (RemovalStage.Asking w) = Finishes c o.set o.set
-RemovalOrder c o (RemovalStage.TakingBack w) = Unit {0}
-RemovalOrder c o (RemovalStage.Cancelling w) = Unit {0}
-RemovalOrder c o (RemovalStage.Removing w) = Finishes c o.set o.todo
-RemovalOrder c o RemovalStage.Settling = Finishes c o.set o.todo
-RemovalOrder c o RemovalStage.Ending = Unit {0}
+abbrev pub RemovalOrder : Core → Job → Stage → Type 0
+RemovalOrder c o Stage.Next = Finishes c o.set o.set
+RemovalOrder c o Stage.Asking = Finishes c o.set o.set
+RemovalOrder c o Stage.Removing = Finishes c o.set o.todo
+RemovalOrder c o Stage.Settling = Finishes c o.set o.todo
+RemovalOrder c o _ = Unit {0}
 
 -- nothing hangs on the device
 abbrev pub IsFree : Core → ℕ → Type 0
@@ -123,18 +122,18 @@ IsFree c k = (j : ℕ) (m : Node) → node_at j c.nodes ≡ Some m → hangs_on 
 abbrev pub HeadAlone : Core → List ℕ → Type 0
 HeadAlone c todo = (k : ℕ) → HeadIs k todo → IsFree c k
 
-abbrev pub SurpriseOrder : Core → Surprise → SurpriseStage → Type 0
-SurpriseOrder c o (SurpriseStage.Telling w) = Finishes c o.set o.set
-SurpriseOrder c o SurpriseStage.Next = FinishesBut c o.set o.behind o.todo
-SurpriseOrder c o (SurpriseStage.Removing w) = FinishesBut c o.set o.behind o.todo × HeadAlone c o.todo
-SurpriseOrder c o SurpriseStage.Settling = FinishesBut c o.set o.behind o.todo × HeadAlone c o.todo
-SurpriseOrder c o SurpriseStage.Ending = FinishesBut c o.set o.behind []
+abbrev pub SurpriseOrder : Core → Job → Stage → Type 0
+SurpriseOrder c o Stage.Telling = Finishes c o.set o.set
+SurpriseOrder c o Stage.Next = FinishesBut c o.set o.behind o.todo
+SurpriseOrder c o Stage.Removing = FinishesBut c o.set o.behind o.todo × HeadAlone c o.todo
+SurpriseOrder c o Stage.Settling = FinishesBut c o.set o.behind o.todo × HeadAlone c o.todo
+SurpriseOrder c o Stage.Ending = FinishesBut c o.set o.behind []
+SurpriseOrder c o _ = Unit {0}
 
-abbrev pub FinishOrder : Core → Finish → FinishStage → Type 0
-FinishOrder c f FinishStage.Next = Unit {0}
-FinishOrder c f (FinishStage.Removing w) = HeadAlone c f.todo
-FinishOrder c f FinishStage.Leaving = HeadAlone c f.todo
-FinishOrder c f FinishStage.Holding = Unit {0}
+abbrev pub FinishOrder : Core → Job → Stage → Type 0
+FinishOrder c f Stage.Removing = HeadAlone c f.todo
+FinishOrder c f Stage.Leaving = HeadAlone c f.todo
+FinishOrder c f _ = Unit {0}
 
 -- each of these is there
 abbrev pub AllThere : List ℕ → List Node → Type 0
@@ -145,49 +144,54 @@ pub record Goes (todo : List ℕ) (nodes : List Node) : Type 0 where
   pub some : todo ≢ []
   pub there : AllThere todo nodes
 
-abbrev pub RebalanceThere : Rebalance → RebalanceStage → List Node → Type 0
-RebalanceThere r (RebalanceStage.Asking w) nodes = Goes r.todo nodes × AllThere r.agreed nodes
-RebalanceThere r (RebalanceStage.TakingBack w) nodes = Goes r.todo nodes × AllThere r.agreed nodes
-RebalanceThere r RebalanceStage.Searching nodes = AllThere r.agreed nodes
-RebalanceThere r (RebalanceStage.Cancelling w) nodes = Goes r.todo nodes
-RebalanceThere r RebalanceStage.Stuck nodes = Unit {0}
-RebalanceThere r (RebalanceStage.Stopping w) nodes = Goes r.todo nodes × AllThere r.agreed nodes
-RebalanceThere r RebalanceStage.Committing nodes = AllThere r.agreed nodes
-RebalanceThere r (RebalanceStage.Restarting w) nodes = Goes r.todo nodes
-RebalanceThere r RebalanceStage.Failed nodes = Goes r.todo nodes
-RebalanceThere r RebalanceStage.Ending nodes = Unit {0}
+abbrev pub RebalanceThere : Job → Stage → List Node → Type 0
+RebalanceThere r Stage.Asking nodes = Goes r.todo nodes × AllThere r.agreed nodes
+RebalanceThere r Stage.TakingBack nodes = Goes r.todo nodes × AllThere r.agreed nodes
+RebalanceThere r Stage.Searching nodes = AllThere r.agreed nodes
+RebalanceThere r Stage.Cancelling nodes = Goes r.todo nodes
+RebalanceThere r Stage.Stopping nodes = Goes r.todo nodes × AllThere r.agreed nodes
+RebalanceThere r Stage.Committing nodes = AllThere r.agreed nodes
+RebalanceThere r Stage.Restarting nodes = Goes r.todo nodes
+RebalanceThere r Stage.Failed nodes = Goes r.todo nodes
+RebalanceThere r _ nodes = Unit {0}
 
-abbrev pub RemovalThere : Removal → RemovalStage → List Node → Type 0
-RemovalThere o RemovalStage.Next nodes = Goes o.todo nodes × AllThere o.set nodes
-RemovalThere o (RemovalStage.Asking w) nodes = Goes o.todo nodes × AllThere o.set nodes
-RemovalThere o (RemovalStage.TakingBack w) nodes = Goes o.todo nodes × AllThere o.set nodes
-RemovalThere o (RemovalStage.Cancelling w) nodes = Goes o.todo nodes
-RemovalThere o (RemovalStage.Removing w) nodes = Goes o.todo nodes
-RemovalThere o RemovalStage.Settling nodes = Goes o.todo nodes
-RemovalThere o RemovalStage.Ending nodes = Unit {0}
+abbrev pub RemovalThere : Job → Stage → List Node → Type 0
+RemovalThere o Stage.Next nodes = Goes o.todo nodes × AllThere o.set nodes
+RemovalThere o Stage.Asking nodes = Goes o.todo nodes × AllThere o.set nodes
+RemovalThere o Stage.TakingBack nodes = Goes o.todo nodes × AllThere o.set nodes
+RemovalThere o Stage.Cancelling nodes = Goes o.todo nodes
+RemovalThere o Stage.Removing nodes = Goes o.todo nodes
+RemovalThere o Stage.Settling nodes = Goes o.todo nodes
+RemovalThere o _ nodes = Unit {0}
 
 -- the target is still to do, has left, or stayed behind
 abbrev pub TargetLeft : ℕ → List ℕ → List ℕ → List Node → Type 0
 TargetLeft k [] behind nodes = (node_at k nodes ≡ None) ⊎ (has behind k ≡ true)
 TargetLeft k (j ∷ js) behind nodes = has (j ∷ js) k ≡ true
 
-abbrev pub SurpriseThere : Surprise → SurpriseStage → List Node → Type 0
-SurpriseThere o (SurpriseStage.Telling w) nodes = Goes o.todo nodes × AllThere o.set nodes × (has o.set o.target ≡ true)
-SurpriseThere o SurpriseStage.Next nodes = Goes o.todo nodes × (has o.todo o.target ≡ true)
-SurpriseThere o (SurpriseStage.Removing w) nodes = Goes o.todo nodes × (has o.todo o.target ≡ true)
-SurpriseThere o SurpriseStage.Settling nodes = Goes o.todo nodes × (has o.todo o.target ≡ true)
-SurpriseThere o SurpriseStage.Ending nodes = (node_at o.target nodes ≡ None) ⊎ (has o.behind o.target ≡ true)
+abbrev pub SurpriseThere : Job → Stage → List Node → Type 0
+SurpriseThere o Stage.Telling nodes = Goes o.todo nodes × AllThere o.set nodes × (has o.set o.target ≡ true)
+SurpriseThere o Stage.Next nodes = Goes o.todo nodes × (has o.todo o.target ≡ true)
+SurpriseThere o Stage.Removing nodes = Goes o.todo nodes × (has o.todo o.target ≡ true)
+SurpriseThere o Stage.Settling nodes = Goes o.todo nodes × (has o.todo o.target ≡ true)
+SurpriseThere o Stage.Ending nodes = (node_at o.target nodes ≡ None) ⊎ (has o.behind o.target ≡ true)
+SurpriseThere o _ nodes = Unit {0}
 
-abbrev pub FinishThere : Finish → FinishStage → List Node → Type 0
-FinishThere f FinishStage.Next nodes = Unit {0}
-FinishThere f _ nodes = Goes f.todo nodes
+abbrev pub FinishThere : Job → Stage → List Node → Type 0
+FinishThere f Stage.Removing nodes = Goes f.todo nodes
+FinishThere f Stage.Leaving nodes = Goes f.todo nodes
+FinishThere f Stage.Holding nodes = Goes f.todo nodes
+FinishThere f _ nodes = Unit {0}
 
-abbrev pub StageKept : Option Operation → Core → Type 0
-StageKept (Some (Operation.Rebalancing r)) c = OrderKept r r.stage × RebalanceThere r r.stage c.nodes
-StageKept (Some (Operation.Removing o)) c = RemovalOrder c o o.stage × RemovalThere o o.stage c.nodes
-StageKept (Some (Operation.Surprising o)) c = SurpriseOrder c o o.stage × SurpriseThere o o.stage c.nodes
-StageKept (Some (Operation.Finishing f)) c = FinishOrder c f f.stage × FinishThere f f.stage c.nodes
-StageKept _ c = Unit {0}
+abbrev pub JobKept : Course → Job → Core → Type 0
+JobKept Course.Rebalancing r c = OrderKept r r.stage × RebalanceThere r r.stage c.nodes
+JobKept Course.Removing o c = RemovalOrder c o o.stage × RemovalThere o o.stage c.nodes
+JobKept Course.Surprising o c = SurpriseOrder c o o.stage × SurpriseThere o o.stage c.nodes
+JobKept Course.Finishing f c = FinishOrder c f f.stage × FinishThere f f.stage c.nodes
+
+abbrev pub StageKept : Option Job → Core → Type 0
+StageKept None c = Unit {0}
+StageKept (Some o) c = JobKept (course_of o.kind) o c
 
 -- Devices that wait to be finished ------------------------------------------------------------
 
@@ -204,9 +208,9 @@ abbrev pub NoneTold : List ℕ → List Node → Type 0
 NoneTold ks nodes = (k : ℕ) (n : Node) → has ks k ≡ true → node_at k nodes ≡ Some n → n.state ≢ SurpriseRemoved
 
 -- in a removal, once all were asked, none of its set waits
-abbrev pub RemovalTold : Core → Removal → RemovalStage → Type 0
-RemovalTold c o (RemovalStage.Removing w) = Told c × NoneTold o.todo c.nodes
-RemovalTold c o RemovalStage.Settling = Told c × NoneTold o.todo c.nodes
+abbrev pub RemovalTold : Core → Job → Stage → Type 0
+RemovalTold c o Stage.Removing = Told c × NoneTold o.todo c.nodes
+RemovalTold c o Stage.Settling = Told c × NoneTold o.todo c.nodes
 RemovalTold c o _ = Told c
 
 -- in a surprise: of its set, those that were told before, and those that stayed behind
@@ -222,20 +226,24 @@ pub record ToldIn (c : Core) (set told behind : List ℕ) : Type 0 where
 abbrev pub IsNew : List ℕ → List ℕ → Type 0
 IsNew todo told = (k : ℕ) → HeadIs k todo → has told k ≡ false
 
-abbrev pub SurpriseTold : Core → Surprise → SurpriseStage → Type 0
-SurpriseTold c o (SurpriseStage.Telling w) = (o.behind ≡ []) × ToldIn c o.set o.told []
-SurpriseTold c o (SurpriseStage.Removing w) = IsNew o.todo o.told × ToldIn c o.set o.told o.behind
+abbrev pub SurpriseTold : Core → Job → Stage → Type 0
+SurpriseTold c o Stage.Telling = (o.behind ≡ []) × ToldIn c o.set o.told []
+SurpriseTold c o Stage.Removing = IsNew o.todo o.told × ToldIn c o.set o.told o.behind
 SurpriseTold c o _ = ToldIn c o.set o.told o.behind
 
-abbrev pub FinishTold : Core → Finish → FinishStage → Type 0
-FinishTold c f FinishStage.Leaving = (k : ℕ) → HeadIs k f.todo → ToldBut k c
+abbrev pub FinishTold : Core → Job → Stage → Type 0
+FinishTold c f Stage.Leaving = (k : ℕ) → HeadIs k f.todo → ToldBut k c
 FinishTold c f _ = Told c
 
-abbrev pub ToldKept : Option Operation → Core → Type 0
-ToldKept (Some (Operation.Removing o)) c = RemovalTold c o o.stage
-ToldKept (Some (Operation.Surprising o)) c = SurpriseTold c o o.stage
-ToldKept (Some (Operation.Finishing f)) c = FinishTold c f f.stage
-ToldKept _ c = Told c
+abbrev pub JobTold : Course → Job → Core → Type 0
+JobTold Course.Rebalancing r c = Told c
+JobTold Course.Removing o c = RemovalTold c o o.stage
+JobTold Course.Surprising o c = SurpriseTold c o o.stage
+JobTold Course.Finishing f c = FinishTold c f f.stage
+
+abbrev pub ToldKept : Option Job → Core → Type 0
+ToldKept None c = Told c
+ToldKept (Some o) c = JobTold (course_of o.kind) o c
 
 -- Open handles ----------------------------------------------------------------------------------
 
@@ -247,26 +255,30 @@ abbrev pub HeadShut : List Handle → List ℕ → Type 0
 HeadShut handles todo = (k : ℕ) → HeadIs k todo → is_open handles k ≡ false
 
 -- who is asked or agreed, or is about to lose its drivers, has no handle
-abbrev pub RemovalShut : List Handle → Removal → RemovalStage → Type 0
-RemovalShut handles o RemovalStage.Next = NoneOpen handles o.agreed
-RemovalShut handles o (RemovalStage.Asking w) = NoneOpen handles o.agreed × HeadShut handles o.todo
-RemovalShut handles o (RemovalStage.TakingBack w) = NoneOpen handles o.agreed
-RemovalShut handles o (RemovalStage.Cancelling w) = NoneOpen handles o.todo
+abbrev pub RemovalShut : List Handle → Job → Stage → Type 0
+RemovalShut handles o Stage.Next = NoneOpen handles o.agreed
+RemovalShut handles o Stage.Asking = NoneOpen handles o.agreed × HeadShut handles o.todo
+RemovalShut handles o Stage.TakingBack = NoneOpen handles o.agreed
+RemovalShut handles o Stage.Cancelling = NoneOpen handles o.todo
 RemovalShut handles o _ = NoneOpen handles o.todo
 
-abbrev pub SurpriseShut : List Handle → Surprise → SurpriseStage → Type 0
-SurpriseShut handles o (SurpriseStage.Removing w) = HeadShut handles o.todo
+abbrev pub SurpriseShut : List Handle → Job → Stage → Type 0
+SurpriseShut handles o Stage.Removing = HeadShut handles o.todo
 SurpriseShut handles o _ = Unit {0}
 
-abbrev pub FinishShut : List Handle → Finish → FinishStage → Type 0
-FinishShut handles f (FinishStage.Removing w) = HeadShut handles f.todo
+abbrev pub FinishShut : List Handle → Job → Stage → Type 0
+FinishShut handles f Stage.Removing = HeadShut handles f.todo
 FinishShut handles f _ = Unit {0}
 
-abbrev pub StageShut : List Handle → Option Operation → Type 0
-StageShut handles (Some (Operation.Removing o)) = RemovalShut handles o o.stage
-StageShut handles (Some (Operation.Surprising o)) = SurpriseShut handles o o.stage
-StageShut handles (Some (Operation.Finishing f)) = FinishShut handles f f.stage
-StageShut handles _ = Unit {0}
+abbrev pub JobShut : List Handle → Course → Job → Type 0
+JobShut handles Course.Rebalancing r = Unit {0}
+JobShut handles Course.Removing o = RemovalShut handles o o.stage
+JobShut handles Course.Surprising o = SurpriseShut handles o o.stage
+JobShut handles Course.Finishing f = FinishShut handles f f.stage
+
+abbrev pub StageShut : List Handle → Option Job → Type 0
+StageShut handles None = Unit {0}
+StageShut handles (Some o) = JobShut handles (course_of o.kind) o
 
 pub record Stands (s : State) : Type 0 where
   pub tree : Tree s.next_serial s.core
@@ -304,3 +316,107 @@ pub record Sound (s : State) (step : Step) : Type 0 where
   pub first : DependentsFirst step.label s.core step.state.core
   pub births : IsNoJoin step.label → FromThose s.core.nodes step.state.core.nodes
   pub stays : IsNoLeave step.label → (k : ℕ) (n : Node) → node_at k s.core.nodes ≡ Some n → node_at k step.state.core.nodes ≡ None → ⊥
+
+-- By the course of the operation ------------------------------------------------------------------
+
+pub keep : (course : Course) (p : Job) (c : Core) → course_of p.kind ≡ course → JobKept course p c → StageKept (Some p) c
+keep course p c is h = subst (λ (x : Course). JobKept x p c) (sym is) h
+
+pub kept_by : (course : Course) (p : Job) (c : Core) → course_of p.kind ≡ course → StageKept (Some p) c → JobKept course p c
+kept_by course p c is h = subst (λ (x : Course). JobKept x p c) is h
+
+pub told_keep : (course : Course) (p : Job) (c : Core) → course_of p.kind ≡ course → JobTold course p c → ToldKept (Some p) c
+told_keep course p c is h = subst (λ (x : Course). JobTold x p c) (sym is) h
+
+pub told_by : (course : Course) (p : Job) (c : Core) → course_of p.kind ≡ course → ToldKept (Some p) c → JobTold course p c
+told_by course p c is h = subst (λ (x : Course). JobTold x p c) is h
+
+pub shut_keep : (handles : List Handle) (course : Course) (p : Job) → course_of p.kind ≡ course → JobShut handles course p → StageShut handles (Some p)
+shut_keep handles course p is h = subst (λ (x : Course). JobShut handles x p) (sym is) h
+
+pub shut_by : (handles : List Handle) (course : Course) (p : Job) → course_of p.kind ≡ course → StageShut handles (Some p) → JobShut handles course p
+shut_by handles course p is h = subst (λ (x : Course). JobShut handles x p) is h
+
+pub waits_by : (course : Course) (p : Job) → course_of p.kind ≡ course → waiting (Some p) ≡ waiting_in course p
+waits_by course p is = ap (λ (x : Course). waiting_in x p) is
+
+-- A request that gets an answer changes none of this ----------------------------------------------
+
+module _ (o : Job) (walk : Option Walk) where
+  rebalance_walked : (stage : Stage) (nodes : List Node) → OrderKept o stage × RebalanceThere o stage nodes → OrderKept (record o { walk = walk }) stage × RebalanceThere (record o { walk = walk }) stage nodes
+  rebalance_walked Stage.Asking nodes h = h
+  rebalance_walked _ nodes h = h
+
+  removal_walked : (stage : Stage) (c : Core) → RemovalOrder c o stage × RemovalThere o stage c.nodes → RemovalOrder c (record o { walk = walk }) stage × RemovalThere (record o { walk = walk }) stage c.nodes
+  removal_walked Stage.Asking c h = h
+  removal_walked _ c h = h
+
+  surprise_walked : (stage : Stage) (c : Core) → SurpriseOrder c o stage × SurpriseThere o stage c.nodes → SurpriseOrder c (record o { walk = walk }) stage × SurpriseThere (record o { walk = walk }) stage c.nodes
+  surprise_walked Stage.Telling c h = h
+  surprise_walked _ c h = h
+
+  finish_walked : (stage : Stage) (c : Core) → FinishOrder c o stage × FinishThere o stage c.nodes → FinishOrder c (record o { walk = walk }) stage × FinishThere (record o { walk = walk }) stage c.nodes
+  finish_walked Stage.Removing c h = h
+  finish_walked _ c h = h
+
+  kept_in : (course : Course) (c : Core) → JobKept course o c → JobKept course (record o { walk = walk }) c
+  kept_in Course.Rebalancing c h = rebalance_walked o.stage c.nodes h
+  kept_in Course.Removing c h = removal_walked o.stage c h
+  kept_in Course.Surprising c h = surprise_walked o.stage c h
+  kept_in Course.Finishing c h = finish_walked o.stage c h
+
+  pub kept_walked : (c : Core) → StageKept (Some o) c → StageKept (Some (record o { walk = walk })) c
+  kept_walked c h = kept_in (course_of o.kind) c h
+
+  rebalance_waits : (stage : Stage) → rebalance_waiting (record o { walk = walk }) stage ≡ rebalance_waiting o stage
+  rebalance_waits Stage.Stopping = refl
+  rebalance_waits _ = refl
+
+  waits_in : (course : Course) → waiting_in course (record o { walk = walk }) ≡ waiting_in course o
+  waits_in Course.Rebalancing = rebalance_waits o.stage
+  waits_in _ = refl
+
+  pub waits_walked : waiting (Some (record o { walk = walk })) ≡ waiting (Some o)
+  waits_walked = waits_in (course_of o.kind)
+
+  removal_told : (stage : Stage) (c : Core) → RemovalTold c o stage → RemovalTold c (record o { walk = walk }) stage
+  removal_told Stage.Asking c h = h
+  removal_told _ c h = h
+
+  surprise_told : (stage : Stage) (c : Core) → SurpriseTold c o stage → SurpriseTold c (record o { walk = walk }) stage
+  surprise_told Stage.Telling c h = h
+  surprise_told _ c h = h
+
+  finish_told : (stage : Stage) (c : Core) → FinishTold c o stage → FinishTold c (record o { walk = walk }) stage
+  finish_told Stage.Removing c h = h
+  finish_told _ c h = h
+
+  told_in : (course : Course) (c : Core) → JobTold course o c → JobTold course (record o { walk = walk }) c
+  told_in Course.Rebalancing c h = h
+  told_in Course.Removing c h = removal_told o.stage c h
+  told_in Course.Surprising c h = surprise_told o.stage c h
+  told_in Course.Finishing c h = finish_told o.stage c h
+
+  pub told_walked_on : (c : Core) → ToldKept (Some o) c → ToldKept (Some (record o { walk = walk })) c
+  told_walked_on c h = told_in (course_of o.kind) c h
+
+  removal_shut : (handles : List Handle) (stage : Stage) → RemovalShut handles o stage → RemovalShut handles (record o { walk = walk }) stage
+  removal_shut handles Stage.Asking h = h
+  removal_shut handles _ h = h
+
+  surprise_shut : (handles : List Handle) (stage : Stage) → SurpriseShut handles o stage → SurpriseShut handles (record o { walk = walk }) stage
+  surprise_shut handles Stage.Removing h = h
+  surprise_shut handles _ h = h
+
+  finish_shut : (handles : List Handle) (stage : Stage) → FinishShut handles o stage → FinishShut handles (record o { walk = walk }) stage
+  finish_shut handles Stage.Removing h = h
+  finish_shut handles _ h = h
+
+  shut_in : (handles : List Handle) (course : Course) → JobShut handles course o → JobShut handles course (record o { walk = walk })
+  shut_in handles Course.Rebalancing h = h
+  shut_in handles Course.Removing h = removal_shut handles o.stage h
+  shut_in handles Course.Surprising h = surprise_shut handles o.stage h
+  shut_in handles Course.Finishing h = finish_shut handles o.stage h
+
+  pub shut_walked : (handles : List Handle) → StageShut handles (Some o) → StageShut handles (Some (record o { walk = walk }))
+  shut_walked handles h = shut_in handles (course_of o.kind) h

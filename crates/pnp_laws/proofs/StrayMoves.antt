@@ -14,7 +14,7 @@ use Rattle.pnp_model.specs.Cores.{bare, is_node, node_at, stacked, with_holds, w
 use Rattle.pnp_model.specs.Events.{answer_of, completed_phase}
 use Rattle.pnp_model.specs.Keyed.{changed_first}
 use Rattle.pnp_model.specs.Rebalances.{committed, movers, others, plan_of}
-use Rattle.pnp_model.specs.Records.{Activity, Node, Operation, Phase, Rebalance, RebalanceStage, State}
+use Rattle.pnp_model.specs.Records.{Activity, Node, Phase, State, Job, Stage, Course, course_of}
 use Rattle.pnp_model.specs.Records.Phase.{Adding, Searching, Starting, Removing, Due}
 use Rattle.pnp_model.specs.States.{activity_at, is_activity, with_phase}
 use Rattle.pnp_model.specs.Tests.{has}
@@ -22,14 +22,15 @@ use Rattle.pnp_model.specs.Walks.{state_after, walk_of}
 use Rattle.pnp_laws.specs.Due.{is_due}
 use Rattle.pnp_laws.specs.Effects.{Acting, ActivityEffect, Enters, IsSearch, NodeEffect, Over, PhaseStep}
 use Rattle.pnp_laws.specs.Holdings.{IsWhole}
-use Rattle.pnp_laws.specs.Kept.{IsGood, OperationFits, RebalanceKeeps, stopped_state}
+use Rattle.pnp_laws.specs.Kept.{IsGood, RebalanceKeeps, stopped_state}
 use Rattle.pnp_laws.specs.Strays.{IsStray}
-use Rattle.pnp_laws.specs.Words.{spared}
+use Rattle.pnp_laws.specs.Words.{spared, spared_in}
 use Rattle.pnp_laws.proofs.Kept.{none_acts}
 use Rattle.pnp_laws.proofs.EffectViews.{Origin, StartOrigin, acting_at, origin, start_origin}
 use Rattle.pnp_laws.proofs.Lists.{not_head, without_has}
 use Rattle.pnp_laws.proofs.Lookups.{node_from, own_serial, phase_set_same, some_same}
 use Rattle.pnp_laws.proofs.Sharing.{part_not}
+use Rattle.pnp_laws.proofs.FitsBy.{rebalance_fits}
 
 -- What is kept ---------------------------------------------------------------------------------
 
@@ -44,7 +45,7 @@ abbrev pub UnplacedHoldNothing : State → Type 0
 UnplacedHoldNothing s =
     (k : ℕ) (a : Activity) (n : Node) → activity_at k s.activities ≡ Some a → is_unplaced a.phase ≡ true → node_at k s.core.nodes ≡ Some n → n.holds ≡ []
 
-abbrev pub spared_by : Option Operation → List ℕ
+abbrev pub spared_by : Option Job → List ℕ
 spared_by None = []
 spared_by (Some o) = spared o
 
@@ -106,7 +107,7 @@ pub data From (s t : State) (k : ℕ) (m : Node) : Type 0 where
   unchanged : (n : Node) → node_at k s.core.nodes ≡ Some n → (m.state ≡ NotStarted → n.state ≡ NotStarted) → m.holds ≡ n.holds → From s t k m
   emptied : m.holds ≡ [] → From s t k m
   placed : (a : Activity) → activity_at k t.activities ≡ Some a → is_unplaced a.phase ≡ false → From s t k m
-  moved : (o : Operation) (n : Node) → s.operation ≡ Some o → node_at k s.core.nodes ≡ Some n → (m.state ≡ NotStarted → (n.state ≡ NotStarted) × (has (spared o) k ≡ true)) → From s t k m
+  moved : (o : Job) (n : Node) → s.operation ≡ Some o → node_at k s.core.nodes ≡ Some n → (m.state ≡ NotStarted → (n.state ≡ NotStarted) × (has (spared o) k ≡ true)) → From s t k m
 
 -- A step or an event -------------------------------------------------------------------------------
 
@@ -117,21 +118,21 @@ module _ (s : State) (label : Label) (t : State) (good : IsGood s) (whole : IsWh
   -- Nodes ------------------------------------------------------------------------------------------
 
   -- only the device of a rebalance is NotStarted among those that move
-  mover_is : (r : Rebalance) (k : ℕ) (n : Node) → s.operation ≡ Some (Operation.Rebalancing r) → r.stage ≡ RebalanceStage.Committing → node_at k s.core.nodes ≡ Some n → has r.agreed k ≡ true → n.state ≡ NotStarted → ⊥
-  mover_is r k n runs is at agreed waits =
-      let keeps = subst (λ (x : RebalanceStage). RebalanceKeeps r x s.core.nodes) is (subst (λ (x : Option Operation). OperationFits x s.core.nodes) runs good.fits) in
+  mover_is : (r : Job) (k : ℕ) (n : Node) → s.operation ≡ Some r → course_of r.kind ≡ Course.Rebalancing → r.stage ≡ Stage.Committing → node_at k s.core.nodes ≡ Some n → has r.agreed k ≡ true → n.state ≡ NotStarted → ⊥
+  mover_is r k n runs course is at agreed waits =
+      let keeps = subst (λ (x : Stage). RebalanceKeeps r x s.core.nodes) is (rebalance_fits s r good runs course) in
       let state : stopped_state r.agreed k n.state ≡ true = keeps.each k n at in
       let state2 = subst (λ (x : DevState). stopped_state r.agreed k x ≡ true) waits state in
       grind (arith)
 
-  committed_from : (r : Rebalance) → s.operation ≡ Some (Operation.Rebalancing r) → r.stage ≡ RebalanceStage.Committing → (k : ℕ) (n m : Node) → node_at k s.core.nodes ≡ Some n
+  committed_from : (r : Job) → s.operation ≡ Some r → course_of r.kind ≡ Course.Rebalancing → r.stage ≡ Stage.Committing → (k : ℕ) (n m : Node) → node_at k s.core.nodes ≡ Some n
       → m ≡ committed r.wanted r.target (movers r) (plan_of r.found) n → From s t k m
-  committed_from r runs is k n m at e =
+  committed_from r runs course is k n m at e =
       by_test (has (r.target ∷ []) k) (has r.agreed k) refl refl
     where
       by_test : (a b : Bool) → has (r.target ∷ []) k ≡ a → has r.agreed k ≡ b → From s t k m
-      by_test true b h g = From.moved (Operation.Rebalancing r) n runs at (λ q. (sym (ap (λ (x : Node). x.state) e) ∙ q, h))
-      by_test false true h g = From.moved (Operation.Rebalancing r) n runs at (λ q. absurd (mover_is r k n runs is at g (sym (ap (λ (x : Node). x.state) e) ∙ q)))
+      by_test true b h g = From.moved r n runs at (λ q. (sym (ap (λ (x : Node). x.state) e) ∙ q, subst (λ (x : Course). has (spared_in r x) k ≡ true) (sym course) h))
+      by_test false true h g = From.moved r n runs at (λ q. absurd (mover_is r k n runs course is at g (sym (ap (λ (x : Node). x.state) e) ∙ q)))
       by_test false false h g = From.unchanged n at (λ q. sym (ap (λ (x : Node). x.state) e) ∙ q) (ap (λ (x : Node). x.holds) e ∙ part_not n.serial (movers r) (plan_of r.found) n.holds (subst (λ (i : ℕ). has (movers r) i ≡ false) (sym (own_serial k n s.core.nodes at)) (not_mover r.target (others r) k h (without_has r.target k r.agreed (not_head r.target k [] h) ∙ g))))
 
   placed_from : (k : ℕ) (phase : Phase) → Acting s k phase → t.activities ≡ changed_first (is_activity k) (with_phase (Starting (walk_of Minor.Start))) s.activities → (m : Node) → From s t k m
@@ -148,7 +149,7 @@ module _ (s : State) (label : Label) (t : State) (good : IsGood s) (whole : IsWh
       elim (stacked_cases n.state) [ inl none ↦ From.emptied (bare_holds k n at none) | inr stays ↦ From.unchanged n at (λ q. sym stays ∙ q) refl ]
   by_origin k _ (Origin.assigned n phase plan at acts search part now) = placed_from k phase acts now (with_holds (own_part plan) n)
   by_origin k _ (Origin.stripped n w at request prints) = From.emptied refl
-  by_origin k _ (Origin.commits r n runs is at) = committed_from r runs is k n (committed r.wanted r.target (movers r) (plan_of r.found) n) at refl
+  by_origin k _ (Origin.commits r n runs course is at) = committed_from r runs course is k n (committed r.wanted r.target (movers r) (plan_of r.found) n) at refl
   by_origin k _ (Origin.joins node d below gone own) = From.emptied refl
 
   pub from : NodeEffect s label t → (k : ℕ) (m : Node) → node_at k t.core.nodes ≡ Some m → From s t k m
@@ -175,8 +176,8 @@ module _ (s : State) (label : Label) (t : State) (good : IsGood s) (whole : IsWh
 
   entered_begun : (k : ℕ) (phase : Phase) → Enters s k t phase → is_unplaced phase ≡ true → Begun k
   entered_begun k phase (Enters.installs drivers chosen drops clears) h = Begun.begins chosen.node chosen.at chosen.bare clears
-  entered_begun k phase (Enters.restarts r plan runs plain is target found nodes) h = absurd (cc)
-  entered_begun k phase (Enters.undoes r runs plain target) h = absurd (cc)
+  entered_begun k phase (Enters.restarts r plan runs course plain is target found nodes) h = absurd (cc)
+  entered_begun k phase (Enters.undoes r runs course plain target) h = absurd (cc)
 
   went_begun : (k : ℕ) (was now : Phase) → PhaseStep s k t was now → is_unplaced now ≡ true → Begun k
   went_begun k was now (PhaseStep.added d ds acts) h = let here = acting_at s k (Adding (d ∷ ds)) good.order acts in Begun.before here.activity here.at (ap is_unplaced here.is)

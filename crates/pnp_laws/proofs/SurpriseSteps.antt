@@ -2,15 +2,16 @@
 use Rattle.std.proofs.Common.{ℕ, ◌≡◌, ◌≢◌, Bool, true, false, List, [], ◌∷◌, Some, None, refl, ap, subst, arith}
 use Rattle.std.proofs.lemmas.Bool.Decides.{nat_tests}
 use Rattle.pnp_model.specs.Keyed.{changed_first, without_first, those}
-use Rattle.pnp_model.specs.Records.{Node, Handle, State, Operation, Surprise, SurpriseStage}
-use Rattle.pnp_model.specs.Records.SurpriseStage.{Settling, Ending}
+use Rattle.pnp_model.specs.Records.{Course, Handle, Job, Node, Stage, State, course_of}
 use Rattle.pnp_model.specs.Cores.{bare, drop_node, is_node, node_at, with_state, with_problem}
 use Rattle.pnp_model.specs.Tests.{has, is_told}
 use Rattle.pnp_model.specs.States.{set_operation, with_core}
 use Rattle.pnp_model.specs.Frames.{rest}
 use Rattle.pnp_model.specs.Handles.{was_told}
-use Rattle.pnp_model.specs.Surprises.{SurpriseMove, finish_on, tell_on, is_told_node, begun_with}
-use Rattle.pnp_model.specs.Machine.{surprise_lifted}
+use Rattle.pnp_model.specs.Jobs.{JobMove, job_of}
+use Rattle.pnp_model.specs.Machine.{job_lifted}
+use Rattle.pnp_labels.specs.declared.label.OpKind.{OpKind}
+use Rattle.pnp_model.specs.Surprises.{finish_on, tell_on, is_told_node, begun_with}
 use Rattle.pnp_laws.specs.Kept.{Good, Lawful, Each, OperationFits, Distinct, Within, IsLast, SurpriseKeeps, telling_state, finishing_state, settling_state, is_calm, is_not_pending, is_removable}
 use Rattle.pnp_model.specs.Diagram.{Row}
 use Rattle.pnp_model.specs.Diagram.Row.{surprise_stopped, surprise}
@@ -23,19 +24,20 @@ use Rattle.pnp_laws.proofs.Lists.{HeadIs, head_has, rest_has, rest_not, rest_dis
 use Rattle.pnp_laws.proofs.OpSteps.{lawful_close, lawful_still}
 use Rattle.pnp_laws.proofs.Finishing.{relist_only}
 use Rattle.pnp_laws.proofs.FinishSteps.{NextFits, at_work, begun_one, lawful_ended, lawful_leaves, lawful_remains, lawful_strips, not_root}
-use Rattle.pnp_laws.proofs.Stages.{SurpriseStep}
+use Rattle.pnp_laws.proofs.FitsBy.{fit}
+use Rattle.pnp_laws.proofs.Stages.{SurpriseAct, SurpriseStep}
 
 -- What comes next keeps the facts
 
-fits_finish_on : (o : Surprise) (ks : List ℕ) (nodes : List Node) → Distinct o.set → has o.set 0 ≡ false → IsLast o.target o.set → Distinct ks → Within ks o.set → IsLast o.target ks →
-    Each (finishing_state ks) nodes → Each (λ k x. is_not_pending x) nodes → OperationFits (Some (Operation.Surprising (finish_on o ks))) nodes
-fits_finish_on o [] nodes a b l c within last each calm = record { set = a; rootless = b; last = l; todo = tt; inside = λ k h. absurd {0} (cc); ends = tt; each = each; calm = calm }
-fits_finish_on o (k ∷ ks) nodes a b l c within last each calm = record { set = a; rootless = b; last = l; todo = c; inside = within; ends = last; each = each; calm = calm }
+fits_finish_on : (o : Job) → course_of o.kind ≡ Course.Surprising → (ks : List ℕ) (nodes : List Node) → Distinct o.set → has o.set 0 ≡ false → IsLast o.target o.set → Distinct ks → Within ks o.set → IsLast o.target ks →
+    Each (finishing_state ks) nodes → Each (λ k x. is_not_pending x) nodes → OperationFits (Some (finish_on o ks)) nodes
+fits_finish_on o course [] nodes a b l c within last each calm = fit Course.Surprising _ _ course (record { own = refl; set = a; rootless = b; last = l; todo = tt; inside = λ k h. absurd {0} (cc); ends = tt; each = each; calm = calm })
+fits_finish_on o course (k ∷ ks) nodes a b l c within last each calm = fit Course.Surprising _ _ course (record { own = refl; set = a; rootless = b; last = l; todo = c; inside = within; ends = last; each = each; calm = calm })
 
-fits_tell_on : (o : Surprise) (ks : List ℕ) (nodes : List Node) → Distinct o.set → has o.set 0 ≡ false → IsLast o.target o.set → Distinct ks → Within ks o.set →
-    Each (telling_state ks o.set) nodes → Each (λ k x. is_not_pending x) nodes → OperationFits (Some (Operation.Surprising (tell_on o ks))) nodes
-fits_tell_on o [] nodes a b l c within each calm = fits_finish_on o o.set nodes a b l a (λ k h. h) l each calm
-fits_tell_on o (k ∷ ks) nodes a b l c within each calm = record { set = a; rootless = b; last = l; todo = c; inside = within; ends = tt; each = each; calm = calm }
+fits_tell_on : (o : Job) → course_of o.kind ≡ Course.Surprising → (ks : List ℕ) (nodes : List Node) → Distinct o.set → has o.set 0 ≡ false → IsLast o.target o.set → Distinct ks → Within ks o.set →
+    Each (telling_state ks o.set) nodes → Each (λ k x. is_not_pending x) nodes → OperationFits (Some (tell_on o ks)) nodes
+fits_tell_on o course [] nodes a b l c within each calm = fits_finish_on o course o.set nodes a b l a (λ k h. h) l each calm
+fits_tell_on o course (k ∷ ks) nodes a b l c within each calm = fit Course.Surprising _ _ course (record { own = refl; set = a; rootless = b; last = l; todo = c; inside = within; ends = tt; each = each; calm = calm })
 
 -- states as lists change
 
@@ -88,53 +90,53 @@ waited (i ∷ is) k x calm h = grind (arith, nat_tests, left_calm x)
 
 -- The steps
 
-module _ (s : State) (o : Surprise) (alone : s.activities ≡ []) (good : Good s.next_serial s.core.nodes [] (Some (Operation.Surprising o))) where
-  next_fits : (nodes : List Node) → SurpriseKeeps o Settling s.core.nodes → Each (λ k x. is_not_pending x) nodes → NextFits s (Operation.Surprising (finish_on o (rest o.todo))) (rest o.todo) nodes
+module _ (s : State) (o : Job) (course : course_of o.kind ≡ Course.Surprising) (alone : s.activities ≡ []) (good : Good s.next_serial s.core.nodes [] (Some o)) where
+  next_fits : (nodes : List Node) → SurpriseKeeps o Stage.Settling s.core.nodes → Each (λ k x. is_not_pending x) nodes → NextFits s (finish_on o (rest o.todo)) (rest o.todo) nodes
   next_fits nodes keeps calm same stacks each =
-      fits_finish_on o (rest o.todo) nodes keeps.set keeps.rootless keeps.last (rest_distinct o.todo keeps.todo) (λ k h. keeps.inside k (rest_within k o.todo h)) (rest_last o.target o.todo keeps.ends) each calm
+      fits_finish_on o course (rest o.todo) nodes keeps.set keeps.rootless keeps.last (rest_distinct o.todo keeps.todo) (λ k h. keeps.inside k (rest_within k o.todo h)) (rest_last o.target o.todo keeps.ends) each calm
 
   -- one node changes, and is not RemovePending
   calm_changed : (f : Node → Node) (node : Node) → ((x : Node) → (f x).serial ≡ x.serial) → node_at node.serial s.core.nodes ≡ Some node → is_not_pending (f node).state ≡ true → Each (λ k x. is_not_pending x) s.core.nodes → Each (λ k x. is_not_pending x) (changed_first (is_node node.serial) f s.core.nodes)
   calm_changed f node keeps at here calm = Each_changed (λ k x. is_not_pending x) (λ k x. is_not_pending x) node.serial f s.core.nodes node keeps at here (λ k x d h. h) calm
 
-  pub lawful_surprise : (in_world : Bool) (handles : List Handle) (stage : SurpriseStage) (m : SurpriseMove) → SurpriseKeeps o stage s.core.nodes → SurpriseStep s.core o in_world handles stage m → Lawful (surprise_lifted s m).state
+  pub lawful_surprise : (in_world : Bool) (handles : List Handle) (stage : Stage) (m : JobMove) → SurpriseKeeps o stage s.core.nodes → SurpriseStep s.core o in_world handles stage m → Lawful (job_lifted s m).state
   lawful_surprise in_world handles stage m keeps (SurpriseStep.tells node w e) =
-      let work = at_work s (Operation.Surprising o) node alone e.first good in
+      let work = at_work s o node alone e.first good in
       let j = node.serial in
       let f = with_state SurpriseRemoved in
       let here = head_has j o.todo work.head in
       let told = told_or node.state (head_told o.todo o.set j node.state here (keeps.each j node work.at)) in
-      lawful_ended s _ node (Operation.Surprising o) _ node.state SurpriseRemoved work refl (not_root o.set o.todo j keeps.rootless keeps.inside here) refl refl refl refl told.1 (λ e. cc)
-      (λ stacks. fits_tell_on o (rest o.todo) (changed_first (is_node j) f s.core.nodes) keeps.set keeps.rootless keeps.last (rest_distinct o.todo keeps.todo)
+      lawful_ended s _ node o _ node.state SurpriseRemoved work refl (not_root o.set o.todo j keeps.rootless keeps.inside here) refl refl refl refl told.1 (λ e. cc)
+      (λ stacks. fits_tell_on o course (rest o.todo) (changed_first (is_node j) f s.core.nodes) keeps.set keeps.rootless keeps.last (rest_distinct o.todo keeps.todo)
       (λ k h. keeps.inside k (rest_within k o.todo h))
       (Each_changed (telling_state o.todo o.set) (telling_state (rest o.todo) o.set) j f s.core.nodes node (λ x. refl) work.at
       (told_here (rest o.todo) o.set j (rest_not j o.todo work.head keeps.todo) (keeps.inside j here))
       (λ k x d h. told_there o.todo (rest o.todo) o.set k x (rest_has j k o.todo work.head d) h) keeps.each)
       (calm_changed f node (λ x. refl) work.at refl keeps.calm))
-  lawful_surprise in_world handles stage m keeps (SurpriseStep.lags node first behind) =
-      lawful_still s _ (Operation.Surprising o) _ refl refl alone refl
-      (fits_finish_on (record o { behind = node.serial ∷ o.behind }) (rest o.todo) s.core.nodes keeps.set keeps.rootless keeps.last (rest_distinct o.todo keeps.todo) (λ k h. keeps.inside k (rest_within k o.todo h)) (rest_last o.target o.todo keeps.ends)
+  lawful_surprise in_world handles stage m keeps (SurpriseStep.acts _ _ (SurpriseAct.lags node first behind)) =
+      lawful_still s _ o _ refl refl alone refl
+      (fits_finish_on (record o { behind = node.serial ∷ o.behind }) course (rest o.todo) s.core.nodes keeps.set keeps.rootless keeps.last (rest_distinct o.todo keeps.todo) (λ k h. keeps.inside k (rest_within k o.todo h)) (rest_last o.target o.todo keeps.ends)
       (λ k n at. waited o.todo k n.state (keeps.calm k n at) (keeps.each k n at)) keeps.calm)
       good
   lawful_surprise in_world handles stage m keeps (SurpriseStep.removes node w e) =
-      let work = at_work s (Operation.Surprising o) node alone e.first good in
-      lawful_strips s _ (Operation.Surprising o) _ node refl refl refl work (not_root o.set o.todo node.serial keeps.rootless keeps.inside (head_has node.serial o.todo work.head)) keeps.each refl
-      (λ each. record { set = keeps.set; rootless = keeps.rootless; last = keeps.last; todo = keeps.todo; inside = keeps.inside; ends = keeps.ends; each = each; calm = calm_changed bare node (λ x. refl) work.at refl keeps.calm })
-  lawful_surprise in_world handles stage m keeps (SurpriseStep.leaves node first inside) =
-      let only = relist_only node.path node.born (set_operation (Some (Operation.Surprising (finish_on o (rest o.todo)))) (with_core (drop_node node.serial s.core) s)) in
-      lawful_leaves s _ (Operation.Surprising o) _ node only.serial only.activities only.operation (at_work s (Operation.Surprising o) node alone first good) keeps.todo keeps.each only.nodes
+      let work = at_work s o node alone e.first good in
+      lawful_strips s _ o _ node refl refl refl work (not_root o.set o.todo node.serial keeps.rootless keeps.inside (head_has node.serial o.todo work.head)) keeps.each refl
+      (λ each. fit Course.Surprising _ _ course (record { own = refl; set = keeps.set; rootless = keeps.rootless; last = keeps.last; todo = keeps.todo; inside = keeps.inside; ends = keeps.ends; each = each; calm = calm_changed bare node (λ x. refl) work.at refl keeps.calm }))
+  lawful_surprise in_world handles stage m keeps (SurpriseStep.acts _ _ (SurpriseAct.leaves node first inside)) =
+      let only = relist_only node.path node.born (set_operation (Some (finish_on o (rest o.todo))) (with_core (drop_node node.serial s.core) s)) in
+      lawful_leaves s _ o _ node only.serial only.activities only.operation (at_work s o node alone first good) keeps.todo keeps.each only.nodes
       (next_fits (without_first (is_node node.serial) s.core.nodes) keeps (Each_left (λ k x. is_not_pending x) (λ k x. is_not_pending x) node.serial s.core.nodes good.serials (λ k x d h. h) keeps.calm))
-  lawful_surprise in_world handles stage m keeps (SurpriseStep.remains node first other over) =
-      let work = at_work s (Operation.Surprising o) node alone first good in
-      lawful_remains s _ (Operation.Surprising o) _ node refl refl refl work keeps.todo keeps.each Problem.Held refl
+  lawful_surprise in_world handles stage m keeps (SurpriseStep.acts _ _ (SurpriseAct.remains node first other over)) =
+      let work = at_work s o node alone first good in
+      lawful_remains s _ o _ node refl refl refl work keeps.todo keeps.each Problem.Held refl
       (next_fits (changed_first (is_node node.serial) (with_problem (Some Problem.Held)) s.core.nodes) keeps (calm_changed (with_problem (Some Problem.Held)) node (λ x. refl) work.at (keeps.calm node.serial node work.at) keeps.calm))
-  lawful_surprise in_world handles stage m keeps (SurpriseStep.stays node first target back) =
-      let work = at_work s (Operation.Surprising o) node alone first good in
+  lawful_surprise in_world handles stage m keeps (SurpriseStep.acts _ _ (SurpriseAct.stays node first target back)) =
+      let work = at_work s o node alone first good in
       let is : node.serial ≡ o.target = grind (arith, nat_tests) in
       let over = last_alone o.target o.todo (subst (λ (i : ℕ). HeadIs i o.todo) is work.head) keeps.ends in
-      lawful_close s _ (Operation.Surprising o) refl refl alone refl
+      lawful_close s _ o refl refl alone refl
       (Each_same (settling_state o.todo) (λ k x. is_calm x) s.core.nodes (λ k x h. alone_calm o.todo node.serial k x work.head over h) keeps.each) good
-  lawful_surprise in_world handles stage m keeps SurpriseStep.closes = lawful_close s _ (Operation.Surprising o) refl refl alone refl keeps.each good
+  lawful_surprise in_world handles stage m keeps (SurpriseStep.acts _ _ SurpriseAct.closes) = lawful_close s _ o refl refl alone refl keeps.each good
 
 -- The begin
 
@@ -149,10 +151,10 @@ calm_not_pending RemovePending h = cc
 calm_not_pending _ h = refl
 
 pub fits_begun_surprise : (s : State) (node : Node) (set : List ℕ) → Distinct set → has set 0 ≡ false → IsLast node.serial set → Good s.next_serial s.core.nodes s.activities None →
-    OperationFits (Some (Operation.Surprising (begun_with s.core node set))) s.core.nodes
+    OperationFits (Some (begun_with s.core node set)) s.core.nodes
 fits_begun_surprise s node set distinct rootless last good =
     let told : ℕ → Bool = λ k. is_told_node (node_at k s.core.nodes) in
-    fits_tell_on (record { target = node.serial; path = node.path; set = set; told = those (λ k. was_told (node_at k s.core.nodes)) set; behind = []; todo = []; stage = Ending })
+    fits_tell_on (record (job_of OpKind.Surprise node) { set = set; told = those (λ k. was_told (node_at k s.core.nodes)) set }) refl
     (those told set) s.core.nodes distinct rootless last (those_distinct told set distinct)
     (λ k h. (those_has told set k h).0)
     (λ k n at. begun_one told set k (is_told n.state) (is_removable n.state) (is_calm n.state) (ap is_told_node at) (λ h off. untold n.state (good.fits k n at) off) (good.fits k n at))

@@ -1,6 +1,6 @@
 -- Each task keeps what a run keeps; an operation begins only by `BeginsWell`.
 use Rattle.std.proofs.Common.{ℕ, ◌≡◌, false, List, [], ◌∷◌, ◌++◌, Some, None, refl, sym, subst, arith}
-use Rattle.pnp_model.specs.Records.{Node, Device, Activity, State, Step, Operation}
+use Rattle.pnp_model.specs.Records.{Node, Device, Activity, State, Step, Course, Job, course_of}
 use Rattle.pnp_model.specs.Cores.{node_at, with_problem}
 use Rattle.pnp_model.specs.Removals.{begun_removal}
 use Rattle.pnp_model.specs.States.{entered, new_child}
@@ -51,14 +51,14 @@ module _ (s : State) (none : s.operation ≡ None) (good : Good s.next_serial s.
       good
 
   -- an operation begins
-  begins : (kind : OpKind) (node : Node) (o : Operation) → s.activities ≡ [] → OperationFits (Some o) s.core.nodes → Lawful (begin s kind node o).state
+  begins : (kind : OpKind) (node : Node) (o : Job) → s.activities ≡ [] → OperationFits (Some o) s.core.nodes → Lawful (begin s kind node o).state
   begins kind node o alone fits =
       lawful_by _ s.next_serial s.core.nodes [] (Some o) refl refl alone refl
       (Good_nodes s.next_serial s.core.nodes s.activities [] None (Some o) tt (λ k a g. absurd (cc)) refl fits good)
 
-  removes : (kind : OpKind) (node : Node) → s.activities ≡ [] → OrderFits node.serial (leaving s.core node.serial) → ((j : ℕ) (n : Node) → node_at j s.core.nodes ≡ Some n → is_stopped n.state ≡ false) → Lawful (begin s kind node (Operation.Removing (begun_removal s.core kind node))).state
-  removes kind node alone order settled =
-      begins kind node _ alone (fits_begun_removal s kind node (leaving s.core node.serial) (record { distinct = order.distinct; rootless = order.rootless; none_stopped = λ k n h at. settled k n at }) good)
+  removes : (kind : OpKind) (node : Node) → course_of kind ≡ Course.Removing → s.activities ≡ [] → OrderFits node.serial (leaving s.core node.serial) → ((j : ℕ) (n : Node) → node_at j s.core.nodes ≡ Some n → is_stopped n.state ≡ false) → Lawful (begin s kind node (begun_removal s.core kind node)).state
+  removes kind node course alone order settled =
+      begins kind node _ alone (fits_begun_removal s kind node (leaving s.core node.serial) course (record { distinct = order.distinct; rootless = order.rootless; none_stopped = λ k n h at. settled k n at }) good)
 
   pub lawful_task : (step : Step) → IsGood s → BeginsWell s.core s.tasks → TaskStep s step → Lawful step.state
   lawful_task _ g well (TaskStep.skips kind k j first calm) = unchanged s _ refl refl refl refl g
@@ -74,8 +74,8 @@ module _ (s : State) (none : s.operation ≡ None) (good : Good s.next_serial s.
       installs node rank driver drivers b (subst (λ (ds : List ℕ). Fits (adding ds) NoStack) (sym chosen.all) (drivers_fit chosen.lower chosen.driver chosen.upper))
   lawful_task _ g well (TaskStep.begins OpKind.Rebalance node first alone at (waits, free)) = begins OpKind.Rebalance node _ alone (fits_begun_rebalance s node at waits good)
   lawful_task _ g well (TaskStep.begins OpKind.Change node first alone at (state, there)) = begins OpKind.Change node _ alone (fits_begun_change s node _ at state (well.up OpKind.Change node.serial first) good)
-  lawful_task _ g well (TaskStep.begins OpKind.Disable node first alone at enabled) = removes OpKind.Disable node alone (well.orders node.serial node at (well.up OpKind.Disable node.serial first)) (well.settled OpKind.Disable node.serial first refl)
-  lawful_task _ g well (TaskStep.begins OpKind.Eject node first alone at h) = removes OpKind.Eject node alone (well.orders node.serial node at (well.up OpKind.Eject node.serial first)) (well.settled OpKind.Eject node.serial first refl)
+  lawful_task _ g well (TaskStep.begins OpKind.Disable node first alone at enabled) = removes OpKind.Disable node refl alone (well.orders node.serial node at (well.up OpKind.Disable node.serial first)) (well.settled OpKind.Disable node.serial first refl)
+  lawful_task _ g well (TaskStep.begins OpKind.Eject node first alone at h) = removes OpKind.Eject node refl alone (well.orders node.serial node at (well.up OpKind.Eject node.serial first)) (well.settled OpKind.Eject node.serial first refl)
   lawful_task _ g well (TaskStep.begins OpKind.Finish node first alone at h) = begins OpKind.Finish node _ alone (fits_begun_finish s node good)
   lawful_task _ g well (TaskStep.begins OpKind.Surprise node first alone at h) =
       let order = well.orders node.serial node at (well.up OpKind.Surprise node.serial first) in

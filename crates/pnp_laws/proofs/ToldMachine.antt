@@ -1,7 +1,6 @@
 -- Each step of the machine and each event keeps that what hangs on a device that waits to be finished waits as well.
-use Rattle.std.proofs.Common.{ℕ, ◌≡◌, ◌≢◌, ◌∙◌, Bool, true, false, List, [], ◌∷◌, ◌++◌, Option, Some, None, refl, sym, ap, subst}
+use Rattle.std.proofs.Common.{ℕ, ◌≡◌, ◌≢◌, ◌∙◌, Bool, true, false, List, [], ◌∷◌, ◌++◌, Option, Some, None, refl, sym, ap, subst, map, reverse}
 use Rattle.device_ids.specs.Folding.{same}
-use Rattle.pnp_labels.specs.declared.words.Answer.{Answer}
 use Rattle.pnp_labels.specs.declared.words.Minor.{Minor}
 use Rattle.pnp_labels.specs.declared.states.DevState.{DevState}
 use Rattle.pnp_labels.specs.declared.states.DevState.TheVariants.{NotStarted, SurpriseRemoved}
@@ -10,11 +9,11 @@ use Rattle.pnp_labels.specs.declared.label.OpKind.{OpKind}
 use Rattle.pnp_model.specs.Cores.{change_node, node_at, strip, with_stack, with_state, stacked}
 use Rattle.pnp_model.specs.Handles.{was_told}
 use Rattle.pnp_model.specs.Keyed.{those}
-use Rattle.pnp_model.specs.Records.{Core, Node, Operation, Phase, Rebalance, RebalanceStage, RemovalStage, State, Step, SurpriseStage, FinishStage, Walk}
-use Rattle.pnp_model.specs.Removals.{RemoveBeside}
+use Rattle.pnp_model.specs.Records.{Core, Node, Phase, State, Step, Walk, Job, Stage, course_of, Course, Relation}
 use Rattle.pnp_model.specs.States.{set_operation, relist, unplug, with_core, new_child}
 use Rattle.pnp_model.specs.Tests.{has}
 use Rattle.pnp_model.specs.Trees.{hangs_on, leaving}
+use Rattle.pnp_model.specs.Frames.{asked, ended, rest}
 use Rattle.pnp_model.specs.Walks.{state_after}
 use Rattle.pnp_laws.specs.Effects.{Alters, AnswerEffect, NodeEffect, OpEffect, Request, begun}
 use Rattle.pnp_laws.specs.Kept.{Good, IsGood, RebalanceKeeps, RemovalKeeps, SurpriseKeeps, is_idle}
@@ -26,8 +25,8 @@ use Rattle.pnp_laws.proofs.Lists.{those_keeps}
 use Rattle.pnp_laws.proofs.Lookups.{node_found, some_same}
 use Rattle.pnp_laws.proofs.OpSteps.{is_Started}
 use Rattle.pnp_laws.proofs.Ranks.{edges_changed}
-use Rattle.pnp_laws.proofs.Stages.{OperationStep, asking, reply}
-use Rattle.pnp_laws.proofs.Standing.{FinishOrder, FinishTold, HandlesFit, NoneTold, RemovalTold, SurpriseOrder, SurpriseTold, StageKept, Told, ToldBut, ToldIn, ToldKept, Tree}
+use Rattle.pnp_laws.proofs.Stages.{OperationStep, RebalanceAct, RebalanceStep, asking}
+use Rattle.pnp_laws.proofs.Standing.{FinishOrder, FinishTold, HandlesFit, NoneTold, RemovalTold, SurpriseOrder, SurpriseTold, StageKept, Told, ToldBut, ToldIn, ToldKept, Tree, JobTold, kept_by, told_keep, told_by, told_walked_on}
 use Rattle.pnp_laws.proofs.StartSteps.{stacked_idle}
 use Rattle.pnp_laws.proofs.ToldSteps.{after, told_ask_on, told_finish, told_rebalance, told_removal, told_surprise, told_tell_on}
 use Rattle.pnp_laws.proofs.Tolds.{kept_states, still_states, told_begun, told_changed, told_fades, told_from, told_joined, told_other_stripped, told_related, told_still}
@@ -36,8 +35,12 @@ use Rattle.pnp_laws.proofs.Truths.{untrue}
 use Rattle.pnp_model.specs.Events as ev
 use Rattle.pnp_model.specs.Machine as ma
 use Rattle.pnp_model.specs.Rebalances as re
+use Rattle.pnp_laws.proofs.EffectsOfOperations.{begun_work, re_ask_on, re_cancel_on, re_restart, re_stop_on}
+use Rattle.resource_reqs.specs.Spelling.Answer.{assignment, no_fit, spent}
 use Rattle.pnp_model.specs.Removals as rm
 use Rattle.pnp_model.specs.Surprises as su
+use Rattle.pnp_model.specs.Jobs.{JobMove, Beside, job_of}
+use Rattle.pnp_laws.proofs.FitsBy.{fits_by}
 
 -- Nodes and relations stay ----------------------------------------------------------------------
 
@@ -54,81 +57,92 @@ module _ (c d : Core) (nodes : d.nodes ≡ c.nodes) (relations : d.relations ≡
   still_in : (set told behind : List ℕ) → ToldIn c set told behind → ToldIn d set told behind
   still_in set told behind h = told_from c d set told behind (edges_same c d (same_still c d nodes relations)) (still_states c d nodes) h
 
-  pub told_same : (o : Option Operation) → ToldKept o c → ToldKept o d
-  told_same (Some (Operation.Removing o)) h = by_stage o.stage h
-    where
-      none : NoneTold o.todo c.nodes → NoneTold o.todo d.nodes
-      none h k n in_todo at = h k n in_todo (still_at k n at)
+  still_none : (ks : List ℕ) → NoneTold ks c.nodes → NoneTold ks d.nodes
+  still_none ks h k n in_todo at = h k n in_todo (still_at k n at)
 
-      by_stage : (stage : RemovalStage) → RemovalTold c o stage → RemovalTold d o stage
-      by_stage (RemovalStage.Removing w) h = (told_still c d nodes relations h.0, none h.1)
-      by_stage RemovalStage.Settling h = (told_still c d nodes relations h.0, none h.1)
-      by_stage _ h = told_still c d nodes relations h
-  told_same (Some (Operation.Surprising o)) h = by_stage o.stage h
-    where
-      by_stage : (stage : SurpriseStage) → SurpriseTold c o stage → SurpriseTold d o stage
-      by_stage (SurpriseStage.Telling w) h = (h.0, still_in o.set o.told [] h.1)
-      by_stage (SurpriseStage.Removing w) h = (h.0, still_in o.set o.told o.behind h.1)
-      by_stage _ h = still_in o.set o.told o.behind h
-  told_same (Some (Operation.Finishing f)) h = by_stage f.stage h
-    where
-      by_stage : (stage : FinishStage) → FinishTold c f stage → FinishTold d f stage
-      by_stage FinishStage.Leaving h = λ k head. still_but k (h k head)
-      by_stage _ h = told_still c d nodes relations h
-  told_same _ h = told_still c d nodes relations h
+  same_removal : (o : Job) (stage : Stage) → RemovalTold c o stage → RemovalTold d o stage
+  same_removal o Stage.Removing h = (told_still c d nodes relations h.0, still_none o.todo h.1)
+  same_removal o Stage.Settling h = (told_still c d nodes relations h.0, still_none o.todo h.1)
+  same_removal o _ h = told_still c d nodes relations h
 
--- an answer of a walk
-pub told_answered : (answer : Answer) (o : Operation) (c : Core) → ToldKept (Some o) c → ToldKept (Some (ev.completed answer o)) c
-told_answered answer (Operation.Rebalancing r) c h = h
-told_answered answer (Operation.Removing o) c h = by_stage o.stage h
-  where
-    by_stage : (stage : RemovalStage) → RemovalTold c o stage → RemovalTold c (record o { stage = ev.completed_removal answer stage }) (ev.completed_removal answer stage)
-    by_stage (RemovalStage.Asking w) h = h
-    by_stage _ h = h
-told_answered answer (Operation.Surprising o) c h = by_stage o.stage h
-  where
-    by_stage : (stage : SurpriseStage) → SurpriseTold c o stage → SurpriseTold c (record o { stage = ev.completed_surprise answer stage }) (ev.completed_surprise answer stage)
-    by_stage (SurpriseStage.Telling w) h = h
-    by_stage _ h = h
-told_answered answer (Operation.Finishing f) c h = by_stage f.stage h
-  where
-    by_stage : (stage : FinishStage) → FinishTold c f stage → FinishTold c (record f { stage = ev.completed_finish answer stage }) (ev.completed_finish answer stage)
-    by_stage (FinishStage.Removing w) h = h
-    by_stage _ h = h
+  same_surprise : (o : Job) (stage : Stage) → SurpriseTold c o stage → SurpriseTold d o stage
+  same_surprise o Stage.Telling h = (h.0, still_in o.set o.told [] h.1)
+  same_surprise o Stage.Removing h = (h.0, still_in o.set o.told o.behind h.1)
+  same_surprise o _ h = still_in o.set o.told o.behind h
+
+  same_finish : (f : Job) (stage : Stage) → FinishTold c f stage → FinishTold d f stage
+  same_finish f Stage.Leaving h = λ k head. still_but k (h k head)
+  same_finish f _ h = told_still c d nodes relations h
+
+  same_told : (course : Course) (o : Job) → JobTold course o c → JobTold course o d
+  same_told Course.Rebalancing r h = told_still c d nodes relations h
+  same_told Course.Removing o h = same_removal o o.stage h
+  same_told Course.Surprising o h = same_surprise o o.stage h
+  same_told Course.Finishing f h = same_finish f f.stage h
+
+  pub told_same : (o : Option Job) → ToldKept o c → ToldKept o d
+  told_same None h = told_still c d nodes relations h
+  told_same (Some o) h = same_told (course_of o.kind) o h
 
 -- An operation goes on -----------------------------------------------------------------------------
 
 -- what holds of the operation and the core after a move holds of the state after its step
-pub lifted : (P : Option Operation → Core → Type 0) (o : Operation) (beside : RemoveBeside) (u : State) → P (after o beside) u.core → P (ma.after_remove o beside u).operation (ma.after_remove o beside u).core
-lifted P o RemoveBeside.On u h = h
-lifted P o (RemoveBeside.Left path born) u h = let only = relist_only path born (set_operation (Some o) u) in subst (λ (x : Option Operation). P x (relist path born (set_operation (Some o) u)).core) (sym only.operation) (subst (λ (x : Core). P (Some o) x) (sym only.core) h)
-lifted P o (RemoveBeside.Disabled path) u h = h
-lifted P o (RemoveBeside.Ejected path born) u h =
+pub lifted : (P : Option Job → Core → Type 0) (o : Job) (beside : Beside) (u : State) → P (after o beside) u.core → P (ma.after_job o beside u).operation (ma.after_job o beside u).core
+lifted P o Beside.On u h = h
+lifted P o (Beside.Left path born) u h = let only = relist_only path born (set_operation (Some o) u) in subst (λ (x : Option Job). P x (relist path born (set_operation (Some o) u)).core) (sym only.operation) (subst (λ (x : Core). P (Some o) x) (sym only.core) h)
+lifted P o (Beside.Disabled path) u h = h
+lifted P o (Beside.Ejected path born) u h =
     let only = relist_only path born (unplug born (set_operation (Some o) u)) in
-    subst (λ (x : Option Operation). P x (relist path born (unplug born (set_operation (Some o) u))).core) (sym only.operation) (subst (λ (x : Core). P (Some o) x) (sym only.core) h)
-lifted P o RemoveBeside.Over u h = h
+    subst (λ (x : Option Job). P x (relist path born (unplug born (set_operation (Some o) u))).core) (sym only.operation) (subst (λ (x : Core). P (Some o) x) (sym only.core) h)
+lifted P o (Beside.FailedRestart k) u h = h
+lifted P o Beside.Over u h = h
+lifted P o Beside.OverStart u h = h
+lifted P o Beside.OverUndo u h = h
 
-rebalance_lifted : (r : Rebalance) (beside : re.RebalanceBeside) (u : State) → Told u.core → ToldKept (ma.after_rebalance r beside u).operation (ma.after_rebalance r beside u).core
-rebalance_lifted r re.RebalanceBeside.On u h = h
-rebalance_lifted r (re.RebalanceBeside.FailedRestart k) u h = h
-rebalance_lifted r _ u h = h
+-- a step of a rebalance keeps its kind
+pub step_kind : (c : Core) (r : Job) (stage : Stage) (m : JobMove) → RebalanceStep c r stage m → m.frame.kind ≡ r.kind
+step_kind c r _ _ (RebalanceStep.agrees node w e ok) = (re_ask_on (record r { agreed = node.serial ∷ r.agreed }) (rest r.todo)).work.kind
+step_kind c r _ _ (RebalanceStep.refuses node w e bad) = refl
+step_kind c r _ _ (RebalanceStep.takes_back node w e) = (re_ask_on r (those (re.is_not_above c.nodes node.serial) (rest r.todo))).work.kind
+step_kind c r _ _ (RebalanceStep.cancels node w e) = (re_cancel_on r (rest r.todo)).work.kind
+step_kind c r _ _ (RebalanceStep.stops node w e) = (re_stop_on r (rest r.todo)).work.kind
+step_kind c r _ _ (RebalanceStep.restarts node w e ok) = (re_restart r (re.startable (ended c node Minor.Start false).nodes (rest r.todo))).work.kind
+step_kind c r _ _ (RebalanceStep.fails node w e bad) = refl
+step_kind c r _ _ (RebalanceStep.acts _ _ (RebalanceAct.searches (assignment plan) budget answer)) = (re_stop_on (record r { found = assignment plan }) (reverse r.agreed)).work.kind
+step_kind c r _ _ (RebalanceStep.acts _ _ (RebalanceAct.searches no_fit budget answer)) = (re_cancel_on (record r { found = no_fit }) r.agreed).work.kind
+step_kind c r _ _ (RebalanceStep.acts _ _ (RebalanceAct.searches spent budget answer)) = (re_cancel_on (record r { found = spent }) r.agreed).work.kind
+step_kind c r _ _ (RebalanceStep.acts _ _ RebalanceAct.sticks) = refl
+step_kind c r _ _ (RebalanceStep.acts _ _ RebalanceAct.commits) = (re_restart r (re.startable c.nodes r.agreed)).work.kind
+step_kind c r _ _ (RebalanceStep.acts _ _ (RebalanceAct.failed node first)) = (re_restart r (re.startable c.nodes (rest r.todo))).work.kind
+step_kind c r _ _ (RebalanceStep.acts _ _ RebalanceAct.closes) = refl
 
-pub told_operation : (s : State) (o : Operation) (step : Step) → Good s.next_serial s.core.nodes s.activities (Some o) → Tree s.next_serial s.core → StageKept (Some o) s.core → HandlesFit s.handles s.core.nodes → ToldKept (Some o) s.core → OperationStep s o step → ToldKept step.state.operation step.state.core
-told_operation s p step good tree kept held told (OperationStep.asks o node w asks) =
-    let answer = reply s.core node w in
-    told_same s.core (asking s o node w).state.core refl refl (Some (ev.completed answer o)) (told_answered answer o s.core told)
-told_operation s p step good tree kept held told (OperationStep.rebalances r stage m is x) =
-    rebalance_lifted m.frame m.beside (with_core m.core s) (told_rebalance s.core r told stage m (subst (λ (y : RebalanceStage). RebalanceKeeps r y s.core.nodes) is good.fits) x)
-told_operation s p step good tree kept held told (OperationStep.removes o stage m is x) =
-    lifted ToldKept (Operation.Removing m.frame) m.beside (with_core m.core s)
-    (told_removal s.core o stage m good.serials (subst (λ (y : RemovalStage). RemovalKeeps o y s.core.nodes) is good.fits) (subst (λ (y : RemovalStage). RemovalTold s.core o y) is told) x)
-told_operation s p step good tree kept held told (OperationStep.surprises o stage m is x) =
-    lifted ToldKept (Operation.Surprising m.frame) m.beside (with_core m.core s)
-    (told_surprise s.next_serial s.core o tree good.serials (ma.is_target_in_world s o) s.handles stage m held (subst (λ (y : SurpriseStage). SurpriseKeeps o y s.core.nodes) is good.fits) (subst (λ (y : SurpriseStage). SurpriseOrder s.core o y) is kept.0)
-    (subst (λ (y : SurpriseStage). SurpriseTold s.core o y) is told) x)
-told_operation s p step good tree kept held told (OperationStep.finishes f stage m is x) =
-    lifted ToldKept (Operation.Finishing m.frame) m.beside (with_core m.core s)
-    (told_finish s.next_serial s.core f tree good.serials (ma.is_current_in_world s f) s.handles stage m (subst (λ (y : FinishStage). FinishOrder s.core f y) is kept.0) (subst (λ (y : FinishStage). FinishTold s.core f y) is told) x)
+-- a rebalance is as outside operations
+told_after : (r : Job) (beside : Beside) (c : Core) → course_of r.kind ≡ Course.Rebalancing → Told c → ToldKept (after r beside) c
+told_after r Beside.Over c course h = h
+told_after r Beside.OverStart c course h = h
+told_after r Beside.OverUndo c course h = h
+told_after r _ c course h = told_keep Course.Rebalancing r c course h
+
+pub told_operation : (s : State) (o : Job) (step : Step) → Good s.next_serial s.core.nodes s.activities (Some o) → Tree s.next_serial s.core → StageKept (Some o) s.core → HandlesFit s.handles s.core.nodes → ToldKept (Some o) s.core → OperationStep s o step → ToldKept step.state.operation step.state.core
+told_operation s o step good tree kept held told is = by_step step is
+  where
+    by_step : (x : Step) → OperationStep s o x → ToldKept x.state.operation x.state.core
+    by_step _ (OperationStep.asks node w asks) = told_same s.core (asking s o node w).state.core refl refl (Some (record o { walk = Some (asked s.core node w).walk })) (told_walked_on o (Some (asked s.core node w).walk) s.core told)
+    by_step _ (OperationStep.rebalances stage m course is x) =
+        let keeps = subst (λ (y : Stage). RebalanceKeeps o y s.core.nodes) is (fits_by Course.Rebalancing o s.core.nodes course good.fits) in
+        lifted ToldKept m.frame m.beside (with_core m.core s)
+        (told_after m.frame m.beside m.core (ap course_of (step_kind s.core o stage m x) ∙ course) (told_rebalance s.core o (told_by Course.Rebalancing o s.core course told) stage m keeps x))
+    by_step _ (OperationStep.removes stage m course is x) =
+        lifted ToldKept m.frame m.beside (with_core m.core s)
+        (told_removal s.core o course stage m good.serials (subst (λ (y : Stage). RemovalKeeps o y s.core.nodes) is (fits_by Course.Removing o s.core.nodes course good.fits)) (subst (λ (y : Stage). RemovalTold s.core o y) is (told_by Course.Removing o s.core course told)) x)
+    by_step _ (OperationStep.surprises stage m course is x) =
+        lifted ToldKept m.frame m.beside (with_core m.core s)
+        (told_surprise s.next_serial s.core o course tree good.serials (ma.is_back s o Course.Surprising) s.handles stage m held (subst (λ (y : Stage). SurpriseKeeps o y s.core.nodes) is (fits_by Course.Surprising o s.core.nodes course good.fits))
+        (subst (λ (y : Stage). SurpriseOrder s.core o y) is (kept_by Course.Surprising o s.core course kept).0) (subst (λ (y : Stage). SurpriseTold s.core o y) is (told_by Course.Surprising o s.core course told)) x)
+    by_step _ (OperationStep.finishes stage m course is x) =
+        lifted ToldKept m.frame m.beside (with_core m.core s)
+        (told_finish s.next_serial s.core o course tree good.serials (ma.is_back s o Course.Finishing) s.handles stage m (subst (λ (y : Stage). FinishOrder s.core o y) is (kept_by Course.Finishing o s.core course kept).0)
+        (subst (λ (y : Stage). FinishTold s.core o y) is (told_by Course.Finishing o s.core course told)) x)
 
 -- No operation runs -----------------------------------------------------------------------------------
 
@@ -146,7 +160,7 @@ module _ (s : State) (good : IsGood s) (none : s.operation ≡ None) (told : Tol
       let fit = (acting_fits s node.serial node (Phase.Starting w) at acts good).1 in
       told_changed s.core node.serial (with_state (state_after Minor.Start bad node.state)) node (λ x. refl) (λ x. refl) at (λ e. absurd (idle_told node.state (ap is_idle fit) e)) (λ e. absurd (start_told bad node.state fit e)) told
   alters_told label t _ _ (Alters.walked node _ w bad at (Request.undoes _ acts) other ends verdict prints) = absurd (other refl)
-  alters_told label t _ _ (Alters.walked node minor w bad at (Request.operates _ _ asks) other ends verdict prints) = absurd (let runs = asks.runs.runs in cc)
+  alters_told label t _ _ (Alters.walked node minor w bad at (Request.operates _ asks) other ends verdict prints) = absurd (let runs = asks.runs.runs in cc)
   alters_told label t j _ (Alters.troubled _ problem) = told_fades s.core (change_node j _ s.core) (edges_changed j _ s.core (λ x. refl) (λ x. refl)) (kept_states s.core j _ (λ x. refl) (λ x. refl)) told
   alters_told label t _ _ (Alters.stacks node d ds name at acts prints) =
       let idle = (acting_fits s node.serial node (Phase.Adding (d ∷ ds)) at acts good).1 in
@@ -158,13 +172,13 @@ module _ (s : State) (good : IsGood s) (none : s.operation ≡ None) (told : Tol
   strips_told node _ w at (Request.undoes _ acts) is =
       let fit = (acting_fits s node.serial node (Phase.Removing w) at acts good).1 in
       told_other_stripped s.core node.serial node told at (idle_told node.state (ap is_idle fit))
-  strips_told node _ w at (Request.operates _ _ asks) is = absurd (let runs = asks.runs.runs in cc)
+  strips_told node _ w at (Request.operates _ asks) is = absurd (let runs = asks.runs.runs in cc)
 
   pub told_calm : (label : Label) (t : State) → Tree s.next_serial s.core → NodeEffect s label t → Told t.core
   told_calm label t tree (NodeEffect.same nodes relations) = told_still s.core t.core nodes relations told
   told_calm label t tree (NodeEffect.changed j f alters nodes relations) = told_still (change_node j f s.core) t.core nodes relations (alters_told label t j f alters)
   told_calm label t tree (NodeEffect.stripped node w at request ends prints nodes relations) = told_still (strip node.serial s.core) t.core nodes relations (strips_told node Minor.Remove w at request refl)
-  told_calm label t tree (NodeEffect.commits r runs is nodes relations) = absurd (cc)
+  told_calm label t tree (NodeEffect.commits r runs course is nodes relations) = absurd (cc)
   told_calm label t tree (NodeEffect.joins node d calm at up below is) =
       subst (λ (x : Step). Told x.state.core) (sym is)
       (told_joined s.next_serial s.core (new_child node.serial d s) node tree good.below refl at (λ e. cc) (λ e. cc) told)
@@ -185,23 +199,25 @@ unqueried_told : (x : DevState) → rm.is_queried x ≡ false → x ≢ Surprise
 unqueried_told SurpriseRemoved h e = cc
 unqueried_told _ h e = cc
 
-removal_begun : (s : State) (kind : OpKind) (node : Node) → Told s.core → ToldKept (Some (Operation.Removing (rm.begun_removal s.core kind node))) s.core
-removal_begun s kind node told =
+removal_begun : (s : State) (kind : OpKind) (node : Node) → course_of kind ≡ Course.Removing → Told s.core → ToldKept (Some (rm.begun_removal s.core kind node)) s.core
+removal_begun s kind node course told =
     let set = leaving s.core node.serial in
-    told_ask_on s.core.nodes (record { kind = kind; target = node.serial; path = node.path; set = set; ejecting = rm.ejecting s.core set; todo = []; agreed = []; refuser = None; stage = RemovalStage.Ending })
+    told_ask_on s.core.nodes (record (job_of kind node) { set = set; ejecting = map (λ (r : Relation). r.member) (those (rm.is_ejecting set) s.core.relations) }) course
     (those (λ k. rm.is_queried_node (node_at k s.core.nodes)) set) s.core told (λ empty k n h at. unqueried_told n.state (none_queried s.core.nodes set empty k n h at))
 
 pub told_begins : (s : State) (kind : OpKind) (node : Node) → Told s.core → ToldKept (Some (begun s kind node)) s.core
-told_begins s OpKind.Disable node told = removal_begun s OpKind.Disable node told
-told_begins s OpKind.Eject node told = removal_begun s OpKind.Eject node told
+told_begins s OpKind.Disable node told = removal_begun s OpKind.Disable node refl told
+told_begins s OpKind.Eject node told = removal_begun s OpKind.Eject node refl told
 told_begins s OpKind.Surprise node told =
     let set = leaving s.core node.serial in
-    told_tell_on (record { target = node.serial; path = node.path; set = set; told = those (λ k. was_told (node_at k s.core.nodes)) set; behind = []; todo = []; stage = SurpriseStage.Ending })
+    told_tell_on (record (job_of OpKind.Surprise node) { set = set; told = those (λ k. was_told (node_at k s.core.nodes)) set }) refl
     (those (λ k. su.is_told_node (node_at k s.core.nodes)) set) s.core refl (told_begun s.core set told)
-told_begins s _ node told = told
+told_begins s OpKind.Finish node told = told
+told_begins s OpKind.Rebalance node told = told_keep Course.Rebalancing _ s.core (ap course_of (begun_work s OpKind.Rebalance node).0) told
+told_begins s OpKind.Change node told = told_keep Course.Rebalancing _ s.core (ap course_of (begun_work s OpKind.Change node).0) told
 
 pub told_idle : (s : State) (label : Label) (t : State) → IsGood s → Tree s.next_serial s.core → s.operation ≡ None → Told s.core → NodeEffect s label t → OpEffect s label t → ToldKept t.operation t.core
-told_idle s label t good tree none told nodes (OpEffect.idles was now prints) = subst (λ (x : Option Operation). ToldKept x t.core) (sym now) (told_calm s good none told label t tree nodes)
+told_idle s label t good tree none told nodes (OpEffect.idles was now prints) = subst (λ (x : Option Job). ToldKept x t.core) (sym now) (told_calm s good none told label t tree nodes)
 told_idle s label t good tree none told nodes (OpEffect.begins kind node was alone at why is) = subst (λ (x : Step). ToldKept x.state.operation x.state.core) (sym is) (told_begins s kind node told)
 told_idle s label t good tree none told nodes (OpEffect.goes o p runs now work prints) = absurd (cc)
 told_idle s label t good tree none told nodes (OpEffect.ends o result runs now prints fits closes) = absurd (let before = runs.runs in cc)
@@ -209,14 +225,14 @@ told_idle s label t good tree none told nodes (OpEffect.ends o result runs now p
 -- Events -------------------------------------------------------------------------------------------------
 
 -- operation, nodes and, where one runs, relations stay
-stays_told : (s : State) (label : Label) (t : State) (o : Option Operation) → s.operation ≡ o → IsGood s → Tree s.next_serial s.core → IsWord label → t.core.nodes ≡ s.core.nodes → t.operation ≡ s.operation → ToldKept o s.core → NodeEffect s label t → ToldKept t.operation t.core
-stays_told s label t None none good tree word nodes now told effect = subst (λ (x : Option Operation). ToldKept x t.core) (sym (now ∙ none)) (told_calm s good none told label t tree effect)
+stays_told : (s : State) (label : Label) (t : State) (o : Option Job) → s.operation ≡ o → IsGood s → Tree s.next_serial s.core → IsWord label → t.core.nodes ≡ s.core.nodes → t.operation ≡ s.operation → ToldKept o s.core → NodeEffect s label t → ToldKept t.operation t.core
+stays_told s label t None none good tree word nodes now told effect = subst (λ (x : Option Job). ToldKept x t.core) (sym (now ∙ none)) (told_calm s good none told label t tree effect)
 stays_told s label t (Some o) runs good tree word nodes now told effect =
-    subst (λ (x : Option Operation). ToldKept x t.core) (sym (now ∙ runs)) (told_same s.core t.core nodes (relations_stay s label t o word runs effect) (Some o) told)
+    subst (λ (x : Option Job). ToldKept x t.core) (sym (now ∙ runs)) (told_same s.core t.core nodes (relations_stay s label t o word runs effect) (Some o) told)
 
 pub told_event : (s : State) (label : Label) (t : State) → IsGood s → Tree s.next_serial s.core → ToldKept s.operation s.core → NodeEffect s label t → AnswerEffect s label t → ToldKept t.operation t.core
 told_event s label t good tree told effect (AnswerEffect.stays word nodes acts now) = stays_told s label t s.operation refl good tree word nodes now told effect
 told_event s label t good tree told effect (AnswerEffect.answers word nodes k a ok at acts now) = stays_told s label t s.operation refl good tree word nodes now told effect
 told_event s label t good tree told effect (AnswerEffect.answered word nodes acts ok o runs now) =
-    subst (λ (x : Option Operation). ToldKept x t.core) (sym now)
-    (told_same s.core t.core nodes (relations_stay s label t o word runs effect) (Some (ev.completed (ev.answer_of ok) o)) (told_answered (ev.answer_of ok) o s.core (subst (λ (x : Option Operation). ToldKept x s.core) runs told)))
+    subst (λ (x : Option Job). ToldKept x t.core) (sym now)
+    (told_same s.core t.core nodes (relations_stay s label t o word runs effect) (Some (ev.completed (ev.answer_of ok) o)) (told_walked_on o (ev.completed (ev.answer_of ok) o).walk s.core (subst (λ (x : Option Job). ToldKept x s.core) runs told)))

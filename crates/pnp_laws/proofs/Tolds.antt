@@ -5,7 +5,7 @@ use Rattle.std.proofs.lemmas.Bool.{cases_eq}
 use Rattle.std.proofs.lemmas.Bool.Decides.{nat_tests}
 use Rattle.pnp_model.specs.Keyed.{those}
 use Rattle.pnp_model.specs.Tests.{has, is_surprise_removed}
-use Rattle.pnp_model.specs.Records.{Node, Core, Relation, Handle, Surprise}
+use Rattle.pnp_model.specs.Records.{Node, Core, Relation, Handle, Job}
 use Rattle.pnp_model.specs.Cores.{add_node, change_node, node_at, strip, drop_node, set_state, with_state, bare}
 use Rattle.pnp_model.specs.Events.{add_relation}
 use Rattle.pnp_model.specs.Frames.{rest}
@@ -278,7 +278,7 @@ pub any_of : (test : ℕ → Bool) (ks : List ℕ) → list_any test ks ≡ true
 any_of test [] h = absurd (cc)
 any_of test (k ∷ ks) h = (k, grind (arith, nat_tests))
 
-pub waits_told : (c : Core) (o : Surprise) (handles : List Handle) (k : ℕ) (n : Node) → Ascending 0 c.nodes → IdleFree c → node_at k c.nodes ≡ Some n → (is_idle n.state ≡ true) ⊎ (n.state ≡ SurpriseRemoved) → (is_open handles k ≡ true → is_held n.state ≡ true) → AllTold o.told c.nodes →
+pub waits_told : (c : Core) (o : Job) (handles : List Handle) (k : ℕ) (n : Node) → Ascending 0 c.nodes → IdleFree c → node_at k c.nodes ≡ Some n → (is_idle n.state ≡ true) ⊎ (n.state ≡ SurpriseRemoved) → (is_open handles k ≡ true → is_held n.state ≡ true) → AllTold o.told c.nodes →
     stays_behind c o handles k ≡ true → n.state ≡ SurpriseRemoved
 waits_told c o handles k n order free at (inr state) fits told h = state
 waits_told c o handles k n order free at (inl idle) fits told h =

@@ -6,7 +6,7 @@ use Rattle.pnp_model.specs.Cores.{node_at, stack_of}
 use Rattle.pnp_model.specs.Finishes.{taken}
 use Rattle.pnp_model.specs.Frames.{first_node}
 use Rattle.pnp_model.specs.Handles.{is_open, ready_device}
-use Rattle.pnp_model.specs.Records.{Node, State, Operation, Removal, RemovalStage, Surprise, SurpriseStage, Finish, FinishStage}
+use Rattle.pnp_model.specs.Records.{Course, Job, Node, Stage, State, course_of}
 use Rattle.pnp_model.specs.Removals.{is_queried, queried, refuses_unasked}
 use Rattle.pnp_model.specs.Surprises.{removing}
 use Rattle.pnp_model.specs.Tests.{has, is_started, is_surprise_removed}
@@ -14,6 +14,8 @@ use Rattle.pnp_labels.specs.declared.states.DevState.{DevState}
 use Rattle.pnp_labels.specs.declared.states.DevState.TheVariants.{Started, SurpriseRemoved}
 use Rattle.pnp_laws.specs.Effects.{Running, Turn}
 use Rattle.pnp_laws.specs.Kept.{Ascending, Each, FinishKeeps, Good, IsGood, OperationFits, RemovalKeeps, SurpriseKeeps, finishing_state, is_calm, querying_state, removing_state, settling_state, taken_state, turn_state}
+use Rattle.pnp_laws.proofs.FitsBy.{fit, fits_by}
+use Rattle.pnp_model.specs.Jobs.{stands}
 use Rattle.pnp_laws.proofs.Finishing.{StacksFit, remove_each, settle_each}
 use Rattle.pnp_laws.proofs.FinishSteps.{not_root}
 use Rattle.pnp_laws.proofs.OpSteps.{is_SurpriseRemoved}
@@ -76,53 +78,57 @@ taken_one j k x told calm =
 -- The turn ---------------------------------------------------------------------------------
 
 module _ (s : State) (stacks : StacksFit s.core.nodes) (order : Ascending 0 s.core.nodes) where
-  turn_removal : (o : Removal) (node : Node) → first_node s.core.nodes o.todo ≡ Some node → refuses_unasked s.handles node ≡ false → RemovalKeeps o RemovalStage.Next s.core.nodes → OperationFits (Some (Operation.Removing (queried o))) s.core.nodes
-  turn_removal o node first asks keeps =
+  turn_removal : (o : Job) (node : Node) → course_of o.kind ≡ Course.Removing → first_node s.core.nodes o.todo ≡ Some node → refuses_unasked s.handles node ≡ false → RemovalKeeps o Stage.Next s.core.nodes → OperationFits (Some (queried o)) s.core.nodes
+  turn_removal o node course first asks keeps =
       let head = head_found s.core.nodes o.todo node first in
-      record {
+      fit Course.Removing _ _ course
+      (record {
+        own = refl;
         set = keeps.set;
         rootless = keeps.rootless;
         todo = keeps.todo;
         agreed = keeps.agreed;
         asks = keeps.asks;
         each = turn_each o.todo o.agreed o.set s.core.nodes node head.0 head.1 (or_neither (is_open s.handles node.serial) (is_surprise_removed node.state) asks).1 keeps.each;
-      }
+      })
 
-  turn_removes : (o : Surprise) (node : Node) (d : ℕ) (ds : List ℕ) → first_node s.core.nodes o.todo ≡ Some node → node.stack ≡ d ∷ ds → SurpriseKeeps o SurpriseStage.Next s.core.nodes → OperationFits (Some (Operation.Surprising (removing o))) s.core.nodes
-  turn_removes o node d ds first full keeps =
+  turn_removes : (o : Job) (node : Node) (d : ℕ) (ds : List ℕ) → course_of o.kind ≡ Course.Surprising → first_node s.core.nodes o.todo ≡ Some node → node.stack ≡ d ∷ ds → SurpriseKeeps o Stage.Next s.core.nodes → OperationFits (Some (removing o)) s.core.nodes
+  turn_removes o node d ds course first full keeps =
       let head = head_found s.core.nodes o.todo node first in
-      record { set = keeps.set; rootless = keeps.rootless; last = keeps.last; todo = keeps.todo; inside = keeps.inside; ends = keeps.ends; each = removes_each o.todo s.core.nodes node d ds stacks head.0 head.1 full keeps.each; calm = keeps.calm }
+      fit Course.Surprising _ _ course (record { own = refl; set = keeps.set; rootless = keeps.rootless; last = keeps.last; todo = keeps.todo; inside = keeps.inside; ends = keeps.ends; each = removes_each o.todo s.core.nodes node d ds stacks head.0 head.1 full keeps.each; calm = keeps.calm })
 
-  turn_settles : (o : Surprise) (node : Node) → first_node s.core.nodes o.todo ≡ Some node → node.stack ≡ [] → SurpriseKeeps o SurpriseStage.Next s.core.nodes → OperationFits (Some (Operation.Surprising (record o { stage = SurpriseStage.Settling }))) s.core.nodes
-  turn_settles o node first none keeps =
+  turn_settles : (o : Job) (node : Node) → course_of o.kind ≡ Course.Surprising → first_node s.core.nodes o.todo ≡ Some node → node.stack ≡ [] → SurpriseKeeps o Stage.Next s.core.nodes → OperationFits (Some (stands o o.todo Stage.Settling)) s.core.nodes
+  turn_settles o node course first none keeps =
       let head = head_found s.core.nodes o.todo node first in
       let up = not_root o.set o.todo node.serial keeps.rootless keeps.inside (head_has node.serial o.todo head.0) in
-      record { set = keeps.set; rootless = keeps.rootless; last = keeps.last; todo = keeps.todo; inside = keeps.inside; ends = keeps.ends; each = settles_each o.todo s.core.nodes node stacks head.0 up head.1 none keeps.each; calm = keeps.calm }
+      fit Course.Surprising _ _ course (record { own = refl; set = keeps.set; rootless = keeps.rootless; last = keeps.last; todo = keeps.todo; inside = keeps.inside; ends = keeps.ends; each = settles_each o.todo s.core.nodes node stacks head.0 up head.1 none keeps.each; calm = keeps.calm })
 
   -- the device that is taken was told that it has gone
   pub taken_told : (k : ℕ) (node : Node) → ready_device s.core s.handles ≡ Some k → node_at k s.core.nodes ≡ Some node → node.state ≡ SurpriseRemoved
   taken_told k node ready at = is_SurpriseRemoved node.state (and_both (is_surprise_removed node.state) _ (ready_is s.core s.handles k node order ready at)).0
 
-  turn_finish : (f : Finish) (k : ℕ) (node : Node) → ready_device s.core s.handles ≡ Some k → node_at k s.core.nodes ≡ Some node → FinishKeeps f FinishStage.Next s.core.nodes → OperationFits (Some (Operation.Finishing (taken f node))) s.core.nodes
-  turn_finish f k node ready at keeps =
+  turn_finish : (f : Job) (k : ℕ) (node : Node) → course_of f.kind ≡ Course.Finishing → ready_device s.core s.handles ≡ Some k → node_at k s.core.nodes ≡ Some node → FinishKeeps f Stage.Next s.core.nodes → OperationFits (Some (taken f node)) s.core.nodes
+  turn_finish f k node course ready at keeps =
       let told = taken_told k node ready at in
       let own = found_self k s.core.nodes node at in
       let up : node.serial ≢ 0 = λ z. let root = (stacks node.serial node own).root z in cc in
-      record {
+      fit Course.Finishing _ _ course
+      (record {
+        own = refl;
         one = (node.serial, refl, up);
         each = λ j n here. taken_one node.serial j n.state (own_state s.core.nodes node n j SurpriseRemoved own here told) (keeps.each j n here);
-      }
+      })
 
-  pub turn_fits : (o p : Operation) → Turn s o p → OperationFits (Some o) s.core.nodes → OperationFits (Some p) s.core.nodes
+  pub turn_fits : (o p : Job) → Turn s o p → OperationFits (Some o) s.core.nodes → OperationFits (Some p) s.core.nodes
   turn_fits _ _ (Turn.same o) fits = fits
-  turn_fits _ _ (Turn.queries o node is first asks) fits = turn_removal o node first asks (subst (λ (x : RemovalStage). RemovalKeeps o x s.core.nodes) is fits)
-  turn_fits _ _ (Turn.removes o node d ds is first goes full) fits = turn_removes o node d ds first full (subst (λ (x : SurpriseStage). SurpriseKeeps o x s.core.nodes) is fits)
-  turn_fits _ _ (Turn.settles o node is first goes none) fits = turn_settles o node first none (subst (λ (x : SurpriseStage). SurpriseKeeps o x s.core.nodes) is fits)
-  turn_fits _ _ (Turn.finishes f k node is ready at) fits = turn_finish f k node ready at (subst (λ (x : FinishStage). FinishKeeps f x s.core.nodes) is fits)
+  turn_fits _ _ (Turn.queries o node course is none first asks) fits = turn_removal o node course first asks (subst (λ (x : Stage). RemovalKeeps o x s.core.nodes) is (fits_by Course.Removing _ _ course fits))
+  turn_fits _ _ (Turn.removes o node d ds course is none first goes full) fits = turn_removes o node d ds course first full (subst (λ (x : Stage). SurpriseKeeps o x s.core.nodes) is (fits_by Course.Surprising _ _ course fits))
+  turn_fits _ _ (Turn.settles o node course is idle first goes none) fits = turn_settles o node course first none (subst (λ (x : Stage). SurpriseKeeps o x s.core.nodes) is (fits_by Course.Surprising _ _ course fits))
+  turn_fits _ _ (Turn.finishes f k node course is none ready at) fits = turn_finish f k node course ready at (subst (λ (x : Stage). FinishKeeps f x s.core.nodes) is (fits_by Course.Finishing _ _ course fits))
 
 -- a turn keeps what a run keeps
-pub turn_good : (s : State) (o p : Operation) → Turn s o p → Good s.next_serial s.core.nodes s.activities (Some o) → Good s.next_serial s.core.nodes s.activities (Some p)
+pub turn_good : (s : State) (o p : Job) → Turn s o p → Good s.next_serial s.core.nodes s.activities (Some o) → Good s.next_serial s.core.nodes s.activities (Some p)
 turn_good s o p turn g = Good_nodes s.next_serial s.core.nodes s.activities s.activities (Some o) (Some p) g.order g.phases g.alone (turn_fits s g.stacks g.serials o p turn g.fits) g
 
-pub running_good : (s : State) (o : Operation) → Running s o → IsGood s → Good s.next_serial s.core.nodes s.activities (Some o)
-running_good s o now good = turn_good s now.before o now.turn (subst (λ (x : Option Operation). Good s.next_serial s.core.nodes s.activities x) now.runs good)
+pub running_good : (s : State) (o : Job) → Running s o → IsGood s → Good s.next_serial s.core.nodes s.activities (Some o)
+running_good s o now good = turn_good s now.before o now.turn (subst (λ (x : Option Job). Good s.next_serial s.core.nodes s.activities x) now.runs good)

@@ -1,23 +1,24 @@
 -- Each step of a removal keeps what a veto is to restore.
-use Rattle.std.proofs.Common.{ℕ, ◌≡◌, ◌==◌, ◌⊎◌, inl, inr, Bool, true, false, cond, List, [], ◌∷◌, Some, None, refl, sym, ap, ◌∙◌, subst, arith}
+use Rattle.std.proofs.Common.{ℕ, ◌≡◌, ◌==◌, ◌⊎◌, inl, inr, Bool, true, false, cond, map, List, [], ◌∷◌, Some, refl, sym, ap, ◌∙◌, subst, arith}
 use Rattle.std.proofs.lemmas.Bool.{cases_eq}
 use Rattle.std.proofs.lemmas.Bool.Decides.{nat_tests}
 use Rattle.pnp_model.specs.Keyed.{those}
-use Rattle.pnp_model.specs.Records.{Node, Core, Removal, RemovalStage}
-use Rattle.pnp_model.specs.Records.RemovalStage.{Ending}
+use Rattle.pnp_model.specs.Records.{Node, Core, Job, Stage}
 use Rattle.pnp_model.specs.Cores.{node_at, with_state, stack_of}
 use Rattle.pnp_model.specs.Frames.{first_node, rest}
 use Rattle.pnp_model.specs.Laws.{IsWithin}
-use Rattle.pnp_model.specs.Removals.{RemovalMove, RemoveBeside, finish_with, finish_on, ask_on, cancel_on, begun_with, ejecting, is_queried_node, close}
+use Rattle.pnp_model.specs.Removals.{ask_on, begun_with, cancel_on, close, finish_on, finish_with, is_ejecting, is_queried_node}
 use Rattle.pnp_laws.specs.Kept.{RemovalKeeps}
 use Rattle.pnp_laws.specs.Vetoes.{turned, marked, Held, Since}
 use Rattle.pnp_labels.specs.declared.states.DevState.{DevState}
 use Rattle.pnp_labels.specs.declared.label.OpKind.{OpKind}
 use Rattle.pnp_labels.specs.declared.states.DevState.TheVariants.{Started, RemovePending}
 use Rattle.pnp_laws.proofs.Lookups.{own_serial}
+use Rattle.pnp_laws.proofs.EffectsOfOperations.{rm_ask_on, rm_cancel_on, rm_finish_on}
 use Rattle.pnp_laws.proofs.Lists.{head_found}
 use Rattle.pnp_laws.proofs.RemovalSteps.{head_querying, head_refusing}
-use Rattle.pnp_laws.proofs.Stages.{RemovalStep}
+use Rattle.pnp_laws.proofs.Stages.{RemovalAct, RemovalStep}
+use Rattle.pnp_model.specs.Jobs.{JobMove, Beside, job_of}
 
 -- to give a node the state that it has changes nothing
 pub turned_same : (k : ℕ) (x : DevState) (nodes : List Node) (n : Node) → node_at k nodes ≡ Some n → n.state ≡ x → turned x k nodes ≡ nodes
@@ -79,25 +80,25 @@ module _ (y : DevState) (before now : Core) where
 
 -- what comes next
 
-since_finish_with : (before now : Core) (o : Removal) (todo stack : List ℕ) → o.refuser ≡ None → Since before now (finish_with o todo stack) (finish_with o todo stack).stage
+since_finish_with : (before now : Core) (o : Job) (todo stack : List ℕ) → o.refused ≡ [] → Since before now (finish_with o todo stack) (finish_with o todo stack).stage
 since_finish_with before now o todo [] e = e
 since_finish_with before now o todo (d ∷ ds) e = e
 
-since_finish_on : (before now : Core) (nodes : List Node) (o : Removal) (todo : List ℕ) → o.refuser ≡ None → Since before now (finish_on nodes o todo) (finish_on nodes o todo).stage
+since_finish_on : (before now : Core) (nodes : List Node) (o : Job) (todo : List ℕ) → o.refused ≡ [] → Since before now (finish_on nodes o todo) (finish_on nodes o todo).stage
 since_finish_on before now nodes o [] e = inl e
 since_finish_on before now nodes o (k ∷ ks) e = since_finish_with before now o (k ∷ ks) (stack_of (node_at k nodes)) e
 
-since_ask_on : (before now : Core) (nodes : List Node) (o : Removal) (todo : List ℕ) → Held RemovePending before now o.agreed → o.refuser ≡ None → Since before now (ask_on nodes o todo) (ask_on nodes o todo).stage
+since_ask_on : (before now : Core) (nodes : List Node) (o : Job) (todo : List ℕ) → Held RemovePending before now o.agreed → o.refused ≡ [] → Since before now (ask_on nodes o todo) (ask_on nodes o todo).stage
 since_ask_on before now nodes o [] h e = since_finish_on before now nodes o o.set e
 since_ask_on before now nodes o (k ∷ ks) h e = (h, e)
 
-since_cancel_on : (before now : Core) (o : Removal) (todo : List ℕ) → Held RemovePending before now todo → Since before now (cancel_on o todo) (cancel_on o todo).stage
+since_cancel_on : (before now : Core) (o : Job) (todo : List ℕ) → Held RemovePending before now todo → Since before now (cancel_on o todo) (cancel_on o todo).stage
 since_cancel_on before now o [] h = inr h
 since_cancel_on before now o (k ∷ ks) h = h
 
 -- the steps
 
-since_cancel_head : (before c : Core) (o : Removal) (todo : List ℕ) (node : Node) → first_node c.nodes todo ≡ Some node → Held RemovePending before c todo →
+since_cancel_head : (before c : Core) (o : Job) (todo : List ℕ) (node : Node) → first_node c.nodes todo ≡ Some node → Held RemovePending before c todo →
     Since before (record c { nodes = turned Started node.serial c.nodes }) (cancel_on o (rest todo)) (cancel_on o (rest todo)).stage
 since_cancel_head before c o [] node first h = absurd (cc)
 since_cancel_head before c o (k ∷ ks) node first h =
@@ -106,48 +107,51 @@ since_cancel_head before c o (k ∷ ks) node first h =
     (since_cancel_on before (record c { nodes = turned Started k c.nodes }) o ks (held_back RemovePending before c k ks h))
 
 -- the operation goes on
-abbrev pub IsOn : RemoveBeside → Type 0
-IsOn RemoveBeside.Over = ⊥
+abbrev pub IsOn : Beside → Type 0
+IsOn Beside.Over = ⊥
+IsOn Beside.OverStart = ⊥
+IsOn Beside.OverUndo = ⊥
 IsOn _ = Unit {0}
 
-pub record SinceOn (before : Core) (m : RemovalMove) : Type 0 where
+pub record SinceOn (before : Core) (o : Job) (m : JobMove) : Type 0 where
+  pub kind : m.frame.kind ≡ o.kind
   pub within : IsWithin m.label
   pub on : IsOn m.beside
   pub since : Since before m.core m.frame m.frame.stage
 
-module _ (before c : Core) (o : Removal) where
-  finishes : (m : RemovalMove) → IsWithin m.label → IsOn m.beside → m.frame ≡ finish_on c.nodes o (rest o.todo) → o.refuser ≡ None → SinceOn before m
-  finishes m within on is none = record { within = within; on = on; since = subst (λ (q : Removal). Since before m.core q q.stage) (sym is) (since_finish_on before m.core c.nodes o (rest o.todo) none) }
+module _ (before c : Core) (o : Job) where
+  finishes : (m : JobMove) → IsWithin m.label → IsOn m.beside → m.frame ≡ finish_on c.nodes o (rest o.todo) → o.refused ≡ [] → SinceOn before o m
+  finishes m within on is none = record { kind = ap (λ (q : Job). q.kind) is ∙ (rm_finish_on c.nodes o (rest o.todo)).kind; within = within; on = on; since = subst (λ (q : Job). Since before m.core q q.stage) (sym is) (since_finish_on before m.core c.nodes o (rest o.todo) none) }
 
   -- only the last stage closes
-  pub since_step : (stage : RemovalStage) (m : RemovalMove) → RemovalKeeps o stage c.nodes → Since before c o stage → RemovalStep c o stage m → SinceOn before m ⊎ ((stage ≡ Ending) × (m ≡ close c o))
-  since_step stage m keeps since (RemovalStep.declines node first) =
-      inl (record { within = tt; on = tt; since = since_cancel_on before c (record o { refuser = Some node.serial }) o.agreed since.0 })
+  pub since_step : (stage : Stage) (m : JobMove) → RemovalKeeps o stage c.nodes → Since before c o stage → RemovalStep c o stage m → SinceOn before o m ⊎ ((stage ≡ Stage.Ending) × (m ≡ close c o))
+  since_step stage m keeps since (RemovalStep.acts _ _ (RemovalAct.declines node first)) =
+      inl (record { kind = (rm_cancel_on (record o { refused = node.serial ∷ o.refused }) o.agreed).kind; within = tt; on = tt; since = since_cancel_on before c (record o { refused = node.serial ∷ o.refused }) o.agreed since.0 })
   since_step stage m keeps since (RemovalStep.agrees node w e good) =
       let h = head_found c.nodes o.todo node e.first in
       let state = head_querying o.todo o.agreed o.set node.serial node.state h.0 (keeps.each node.serial node h.1) in
-      inl (record { within = tt; on = tt; since = since_ask_on before _ c.nodes (record o { agreed = node.serial ∷ o.agreed }) (rest o.todo) (held_agreed RemovePending before c node.serial o.agreed node h.1 state since.0) since.1 })
+      inl (record { kind = (rm_ask_on c.nodes (record o { agreed = node.serial ∷ o.agreed }) (rest o.todo)).kind; within = tt; on = tt; since = since_ask_on before _ c.nodes (record o { agreed = node.serial ∷ o.agreed }) (rest o.todo) (held_agreed RemovePending before c node.serial o.agreed node h.1 state since.0) since.1 })
   since_step stage m keeps since (RemovalStep.refuses node w e bad) =
-      inl (record { within = tt; on = tt; since = held_same RemovePending before c node.serial node.state o.agreed node (head_found c.nodes o.todo node e.first).1 refl since.0 })
+      inl (record { kind = refl; within = tt; on = tt; since = held_same RemovePending before c node.serial node.state o.agreed node (head_found c.nodes o.todo node e.first).1 refl since.0 })
   since_step stage m keeps since (RemovalStep.takes_back node w e) =
       let h = head_found c.nodes o.todo node e.first in
       let state = head_refusing o.todo o.agreed node.serial node.state h.0 (keeps.each node.serial node h.1) in
-      inl (record { within = tt; on = tt; since = since_cancel_on before _ o o.agreed (held_same RemovePending before c node.serial Started o.agreed node h.1 state since) })
-  since_step stage m keeps since (RemovalStep.cancels node w e) = inl (record { within = tt; on = tt; since = since_cancel_head before c o o.todo node e.first since })
-  since_step stage m keeps since (RemovalStep.removes node w e) = inl (record { within = tt; on = tt; since = since })
-  since_step stage m keeps since (RemovalStep.leaves node first inside) = inl (finishes _ tt tt refl since)
-  since_step stage m keeps since (RemovalStep.ejects node first) = inl (finishes _ tt tt refl since)
-  since_step stage m keeps since (RemovalStep.disables node first over target) = inl (finishes _ tt tt refl since)
-  since_step stage m keeps since (RemovalStep.remains node problem first over other) = inl (finishes _ tt tt refl since)
-  since_step stage m keeps since RemovalStep.closes = inr (refl, refl)
+      inl (record { kind = (rm_cancel_on o o.agreed).kind; within = tt; on = tt; since = since_cancel_on before _ o o.agreed (held_same RemovePending before c node.serial Started o.agreed node h.1 state since) })
+  since_step stage m keeps since (RemovalStep.cancels node w e) = inl (record { kind = (rm_cancel_on o (rest o.todo)).kind; within = tt; on = tt; since = since_cancel_head before c o o.todo node e.first since })
+  since_step stage m keeps since (RemovalStep.removes node w e) = inl (record { kind = refl; within = tt; on = tt; since = since })
+  since_step stage m keeps since (RemovalStep.acts _ _ (RemovalAct.leaves node first inside)) = inl (finishes _ tt tt refl since)
+  since_step stage m keeps since (RemovalStep.acts _ _ (RemovalAct.ejects node first)) = inl (finishes _ tt tt refl since)
+  since_step stage m keeps since (RemovalStep.acts _ _ (RemovalAct.disables node first over target)) = inl (finishes _ tt tt refl since)
+  since_step stage m keeps since (RemovalStep.acts _ _ (RemovalAct.remains node problem first over other)) = inl (finishes _ tt tt refl since)
+  since_step stage m keeps since (RemovalStep.acts _ _ RemovalAct.closes) = inr (refl, refl)
 
 -- the begin
 pub since_begun : (c : Core) (kind : OpKind) (node : Node) (set : List ℕ) → Since c c (begun_with c kind node set) (begun_with c kind node set).stage
 since_begun c kind node set =
-    since_ask_on c c c.nodes (record { kind = kind; target = node.serial; path = node.path; set = set; ejecting = ejecting c set; todo = []; agreed = []; refuser = None; stage = Ending }) (those (λ k. is_queried_node (node_at k c.nodes)) set)
+    since_ask_on c c c.nodes (record (job_of kind node) { set = set; ejecting = map (λ r. r.member) (those (is_ejecting set) c.relations) }) (those (λ k. is_queried_node (node_at k c.nodes)) set)
     (record { nodes = refl; back = tt; relations = refl; reserved = refl }) refl
 
 -- a veto restores
-pub veto_restores : (before c : Core) (o : Removal) (q : ℕ) → o.refuser ≡ Some q → Since before c o Ending → (c.nodes ≡ before.nodes) × (c.relations ≡ before.relations) × (c.reserved ≡ before.reserved)
-veto_restores before c o q e (inl none) = absurd (cc)
-veto_restores before c o q e (inr h) = (h.nodes, h.relations, h.reserved)
+pub veto_restores : (before c : Core) (o : Job) (q : ℕ) (qs : List ℕ) → o.refused ≡ q ∷ qs → Since before c o Stage.Ending → (c.nodes ≡ before.nodes) × (c.relations ≡ before.relations) × (c.reserved ≡ before.reserved)
+veto_restores before c o q qs e (inl none) = absurd (cc)
+veto_restores before c o q qs e (inr h) = (h.nodes, h.relations, h.reserved)

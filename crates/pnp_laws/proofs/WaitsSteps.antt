@@ -3,7 +3,7 @@ use Rattle.std.proofs.Common.{ℕ, ◌≡◌, ◌∙◌, true, false, nat_lt, Li
 use Rattle.pnp_labels.specs.declared.event.Event.{Event}
 use Rattle.pnp_labels.specs.declared.label.Label.{Label}
 use Rattle.pnp_model.specs.Handles.{is_open}
-use Rattle.pnp_model.specs.Records.{Handle, Operation, RemovalStage, State, Step, Settings, SurpriseStage, FinishStage}
+use Rattle.pnp_model.specs.Records.{Handle, State, Step, Settings, Job, Stage, Course, course_of}
 use Rattle.pnp_model.specs.Runs.{Entry, Goes}
 use Rattle.pnp_model.specs.Runs.Entry.{Happens, Did, Declines}
 use Rattle.pnp_laws.specs.Effects.{AnswerEffect, Effect, HandleEffect, Running}
@@ -12,14 +12,15 @@ use Rattle.pnp_laws.proofs.Declined.{idle_after, idle_before}
 use Rattle.pnp_laws.proofs.EffectsOf.{effect_goes}
 use Rattle.pnp_laws.proofs.HandlesKept.{held_goes, open_closed}
 use Rattle.pnp_laws.proofs.IdleSteps.{MachineStep, machine_step}
-use Rattle.pnp_laws.proofs.ShutSteps.{shut_answered, shut_none, shut_operation, shut_start, shut_task}
+use Rattle.pnp_laws.proofs.ShutSteps.{shut_none, shut_operation, shut_start, shut_task}
 use Rattle.pnp_laws.proofs.SoundMachine.{begins_well}
-use Rattle.pnp_laws.proofs.Standing.{FinishShut, Kept, RemovalShut, StageShut, SurpriseShut, Told, ToldKept, Waits}
+use Rattle.pnp_laws.proofs.Standing.{FinishShut, Kept, RemovalShut, StageShut, SurpriseShut, Told, ToldKept, Waits, shut_walked, JobShut}
 use Rattle.pnp_laws.proofs.ToldMachine.{told_event, told_idle, told_operation}
 use Rattle.pnp_laws.proofs.Truths.{untrue}
 use Rattle.pnp_laws.proofs.Turns.{running_good}
 use Rattle.pnp_laws.proofs.TurnsKept.{running_shut, running_stage, running_told}
 use Rattle.pnp_model.specs.Events as ev
+use Rattle.pnp_laws.proofs.Stages.{own_step}
 
 -- Handles -------------------------------------------------------------------------------------------
 
@@ -36,26 +37,31 @@ Fewer handles more = (k : ℕ) → is_open handles k ≡ true → is_open more k
 still_shut : (handles more : List Handle) (k : ℕ) → Fewer handles more → is_open more k ≡ false → is_open handles k ≡ false
 still_shut handles more k fewer shut = untrue (is_open handles k) (λ e. let z = fewer k e in cc)
 
-fewer_shut : (handles more : List Handle) (o : Option Operation) → Fewer handles more → StageShut more o → StageShut handles o
-fewer_shut handles more (Some (Operation.Removing o)) fewer h = by_stage o.stage h
-  where
-    by_stage : (stage : RemovalStage) → RemovalShut more o stage → RemovalShut handles o stage
-    by_stage (RemovalStage.Asking w) h = (λ k g. still_shut handles more k fewer (h.0 k g), λ k g. still_shut handles more k fewer (h.1 k g))
-    by_stage _ h = λ k g. still_shut handles more k fewer (h k g)
-fewer_shut handles more (Some (Operation.Surprising o)) fewer h = by_stage o.stage h
-  where
-    by_stage : (stage : SurpriseStage) → SurpriseShut more o stage → SurpriseShut handles o stage
-    by_stage (SurpriseStage.Removing w) h = λ k g. still_shut handles more k fewer (h k g)
-    by_stage _ h = tt
-fewer_shut handles more (Some (Operation.Finishing f)) fewer h = by_stage f.stage h
-  where
-    by_stage : (stage : FinishStage) → FinishShut more f stage → FinishShut handles f stage
-    by_stage (FinishStage.Removing w) h = λ k g. still_shut handles more k fewer (h k g)
-    by_stage _ h = tt
-fewer_shut handles more _ fewer h = tt
+module _ (handles more : List Handle) (o : Job) (fewer : Fewer handles more) where
+  fewer_removal : (stage : Stage) → RemovalShut more o stage → RemovalShut handles o stage
+  fewer_removal Stage.Asking h = (λ k g. still_shut handles more k fewer (h.0 k g), λ k g. still_shut handles more k fewer (h.1 k g))
+  fewer_removal _ h = λ k g. still_shut handles more k fewer (h k g)
+
+  fewer_surprise : (stage : Stage) → SurpriseShut more o stage → SurpriseShut handles o stage
+  fewer_surprise Stage.Removing h = λ k g. still_shut handles more k fewer (h k g)
+  fewer_surprise _ h = tt
+
+  fewer_finish : (stage : Stage) → FinishShut more o stage → FinishShut handles o stage
+  fewer_finish Stage.Removing h = λ k g. still_shut handles more k fewer (h k g)
+  fewer_finish _ h = tt
+
+  fewer_by : (course : Course) → JobShut more course o → JobShut handles course o
+  fewer_by Course.Rebalancing h = tt
+  fewer_by Course.Removing h = fewer_removal o.stage h
+  fewer_by Course.Surprising h = fewer_surprise o.stage h
+  fewer_by Course.Finishing h = fewer_finish o.stage h
+
+fewer_shut : (handles more : List Handle) (o : Option Job) → Fewer handles more → StageShut more o → StageShut handles o
+fewer_shut handles more None fewer h = tt
+fewer_shut handles more (Some o) fewer h = fewer_by handles more o fewer (course_of o.kind) h
 
 -- while an operation runs none is opened
-runs_fewer : (s : State) (entry : Entry) (t : State) (o : Operation) → s.operation ≡ Some o → HandleEffect s entry t → Fewer t.handles s.handles
+runs_fewer : (s : State) (entry : Entry) (t : State) (o : Job) → s.operation ≡ Some o → HandleEffect s entry t → Fewer t.handles s.handles
 runs_fewer s entry t o runs (HandleEffect.same e) k h = subst (λ (hs : List Handle). is_open hs k ≡ true) e h
 runs_fewer s entry t o runs (HandleEffect.opens node path own none found up started event is) k h = absurd (cc)
 runs_fewer s entry t o runs (HandleEffect.closes node path own handle found at event handles is) k h =
@@ -65,22 +71,24 @@ runs_fewer s entry t o runs (HandleEffect.closes node path own handle found at e
 
 module _ (s : State) (kept : Kept s) where
   calm : s.operation ≡ None → Good s.next_serial s.core.nodes s.activities None
-  calm none = subst (λ (x : Option Operation). Good s.next_serial s.core.nodes s.activities x) none kept.good
+  calm none = subst (λ (x : Option Job). Good s.next_serial s.core.nodes s.activities x) none kept.good
 
   untold : s.operation ≡ None → Told s.core
-  untold none = subst (λ (x : Option Operation). ToldKept x s.core) none kept.waits.told
+  untold none = subst (λ (x : Option Job). ToldKept x s.core) none kept.waits.told
 
   step_shut : (step : Step) → MachineStep s step → StageShut s.handles step.state.operation
   step_shut step (MachineStep.operates o _ runs taken) =
       let running : Running s taken.now = record { before = o; runs = runs; turn = taken.turn } in
-      shut_operation s taken.now step (running_good s taken.now running kept.good) kept.waits.held (running_shut s taken.now running kept) taken.is
+      let good = running_good s taken.now running kept.good in
+      shut_operation s taken.now step good kept.waits.held (running_shut s taken.now running kept) (own_step s taken.now step good.fits taken.is)
   step_shut _ (MachineStep.starts node phase m at acting is) = shut_start s node.serial m acting.none
   step_shut step (MachineStep.does _ none is) = shut_task s step none (begins_well s none kept.good kept.stands) (calm none).fits kept.waits.held is
 
   step_told : (step : Step) → MachineStep s step → Effect s (Did step.label) step.state → ToldKept step.state.operation step.state.core
   step_told step (MachineStep.operates o _ runs taken) effect =
       let running : Running s taken.now = record { before = o; runs = runs; turn = taken.turn } in
-      told_operation s taken.now step (running_good s taken.now running kept.good) kept.stands.tree (running_stage s taken.now running kept) kept.waits.held (running_told s taken.now running kept) taken.is
+      let good = running_good s taken.now running kept.good in
+      told_operation s taken.now step good kept.stands.tree (running_stage s taken.now running kept) kept.waits.held (running_told s taken.now running kept) (own_step s taken.now step good.fits taken.is)
   step_told step (MachineStep.starts node phase m at acting is) effect = told_idle s step.label step.state kept.good kept.stands.tree acting.none (untold acting.none) effect.nodes effect.operation
   step_told step (MachineStep.does _ none is) effect = told_idle s step.label step.state kept.good kept.stands.tree none (untold none) effect.nodes effect.operation
 
@@ -96,16 +104,16 @@ waits_step settings s label t kept goes =
 
 -- Events ----------------------------------------------------------------------------------------------
 
-stays_shut : (s : State) (entry : Entry) (t : State) (o : Option Operation) → s.operation ≡ o → t.operation ≡ s.operation → HandleEffect s entry t → StageShut s.handles o → StageShut t.handles t.operation
+stays_shut : (s : State) (entry : Entry) (t : State) (o : Option Job) → s.operation ≡ o → t.operation ≡ s.operation → HandleEffect s entry t → StageShut s.handles o → StageShut t.handles t.operation
 stays_shut s entry t None none now handles h = shut_none t.handles t.operation (now ∙ none)
-stays_shut s entry t (Some o) runs now handles h = subst (λ (x : Option Operation). StageShut t.handles x) (sym (now ∙ runs)) (fewer_shut t.handles s.handles (Some o) (runs_fewer s entry t o runs handles) h)
+stays_shut s entry t (Some o) runs now handles h = subst (λ (x : Option Job). StageShut t.handles x) (sym (now ∙ runs)) (fewer_shut t.handles s.handles (Some o) (runs_fewer s entry t o runs handles) h)
 
 event_shut : (s : State) (entry : Entry) (label : Label) (t : State) → StageShut s.handles s.operation → HandleEffect s entry t → AnswerEffect s label t → StageShut t.handles t.operation
 event_shut s entry label t h handles (AnswerEffect.stays word nodes acts now) = stays_shut s entry t s.operation refl now handles h
 event_shut s entry label t h handles (AnswerEffect.answers word nodes k a ok at acts now) = stays_shut s entry t s.operation refl now handles h
 event_shut s entry label t h handles (AnswerEffect.answered word nodes acts ok o runs now) =
-    subst (λ (x : Option Operation). StageShut t.handles x) (sym now)
-    (fewer_shut t.handles s.handles (Some (ev.completed (ev.answer_of ok) o)) (runs_fewer s entry t o runs handles) (shut_answered s.handles (ev.answer_of ok) o (subst (λ (x : Option Operation). StageShut s.handles x) runs h)))
+    subst (λ (x : Option Job). StageShut t.handles x) (sym now)
+    (fewer_shut t.handles s.handles (Some (ev.completed (ev.answer_of ok) o)) (runs_fewer s entry t o runs handles) (shut_walked o (ev.completed (ev.answer_of ok) o).walk s.handles (subst (λ (x : Option Job). StageShut s.handles x) runs h)))
 
 pub waits_happens : (settings : Settings) (s : State) (event : Event) (label : Label) (t : State) → Kept s → Goes settings s (Happens event label) t → Waits t
 waits_happens settings s event label t kept goes =

@@ -1,5 +1,5 @@
 -- What a step of the machine, or an event, can do to a state: the one account that laws over steps read.
-use Rattle.std.specs.Prelude.{ℕ, ◌+◌, ◌≡◌, ◌≢◌, ◌⊎◌, ◌==◌, ◌&&◌, Bool, true, false, not, List, [], ◌∷◌, ◌++◌, Option, Some, None, length, map, find, drop, nat_le, nat_lt, slice_get, option_map}
+use Rattle.std.specs.Prelude.{ℕ, ◌+◌, ◌≡◌, ◌≢◌, ◌⊎◌, ◌==◌, ◌&&◌, Bool, true, false, not, List, [], ◌∷◌, ◌++◌, Option, Some, None, length, map, find, drop, nat_le, nat_lt, slice_get}
 use Rattle.std.specs.List.{list_any}
 use Rattle.std.specs.Option.{is_some}
 use Rattle.resource_reqs.specs.Resources.{Res, Reqs, clashes}
@@ -27,19 +27,20 @@ use Rattle.pnp_model.specs.Frames.{first_node, fixed_beside, held_by, next_drive
 use Rattle.pnp_model.specs.States.{is_activity, activity_at, device_born, device_of, entered, has_below, is_in_world, let_through, node_born, node_of, requires, with_phase, without_those}
 use Rattle.pnp_model.specs.Windows.{is_window_on}
 use Rattle.pnp_model.specs.Handles.{closed_with, is_handle_of, is_ready_device, opened, ready_device}
+use Rattle.pnp_model.specs.Jobs.{stands}
 use Rattle.pnp_model.specs.Starts.{adding, own_part}
 use Rattle.pnp_model.specs.Rebalances.{begun_rebalance, begun_change, committed, movers, plan_of}
 use Rattle.pnp_model.specs.Removals.{begun_removal, queried, refuses_unasked}
 use Rattle.pnp_model.specs.Surprises.{begun_surprise, removing, stays_behind}
 use Rattle.pnp_model.specs.Finishes.{begun_finish, taken}
 use Rattle.pnp_model.specs.Tasks.{begin, is_gone, join_step, joining, numbered}
-use Rattle.pnp_model.specs.Machine.{is_ready, operation_walk, phase_walk}
+use Rattle.pnp_model.specs.Machine.{is_ready, phase_walk}
 use Rattle.pnp_model.specs.Events.{answer_of, completed, completed_phase, finish_due, has_children, with_handles, with_rule}
 use Rattle.pnp_model.specs.Runs.{Entry, Goes, printed}
 use Rattle.pnp_model.specs.Runs.Entry.{Happens, Did, Declines}
-use Rattle.pnp_model.specs.Records.{Node, Device, Relation, Walk, Activity, Phase, Task, Duty, State, Operation, Rebalance, RebalanceStage, Removal, RemovalStage, Settings, Surprise, SurpriseStage, Finish, FinishStage, Handle}
-use Rattle.pnp_laws.specs.Kept.{Ascending}
-use Rattle.pnp_laws.specs.Words.{IsBeside, IsNoJoin, IsWord, NotTwelve, EndsBy, is_removal, kind_of, path_of, spared, wanted_by, joined}
+use Rattle.pnp_model.specs.Records.{Node, Device, Relation, Walk, Activity, Phase, Task, Duty, State, Settings, Handle, Job, Course, Stage, course_of}
+use Rattle.pnp_laws.specs.Kept.{Ascending, IsOwn}
+use Rattle.pnp_laws.specs.Words.{IsBeside, IsNoJoin, IsWord, NotTwelve, EndsBy, is_removal, spared, joined}
 use Rattle.device_ids.specs.Folding as folding
 
 -- Who does it ----------------------------------------------------------------------
@@ -52,110 +53,54 @@ pub record Acting (s : State) (k : ℕ) (phase : Phase) : Type 0 where
   pub own : activity.serial ≡ k
   pub is : activity.phase ≡ phase
 
--- the devices of an operation that are still to do, the one of its walk first
-abbrev pub todo_of : Operation → List ℕ
-todo_of (Operation.Rebalancing r) = r.todo
-todo_of (Operation.Removing o) = o.todo
-todo_of (Operation.Surprising o) = o.todo
-todo_of (Operation.Finishing f) = f.todo
+-- the devices of an operation that may leave: where it settles who stays
+abbrev pub leaving_in : Stage → List ℕ → List ℕ
+leaving_in Stage.Settling todo = todo
+leaving_in Stage.Leaving todo = todo
+leaving_in _ todo = []
 
--- those of them that may leave: where the operation settles who stays
-abbrev pub removal_leaves : RemovalStage → List ℕ → List ℕ
-removal_leaves RemovalStage.Settling todo = todo
-removal_leaves _ todo = []
+abbrev pub to_leave : Job → List ℕ
+to_leave j = leaving_in j.stage j.todo
 
-abbrev pub surprise_leaves : SurpriseStage → List ℕ → List ℕ
-surprise_leaves SurpriseStage.Settling todo = todo
-surprise_leaves _ todo = []
-
-abbrev pub finish_leaves : FinishStage → List ℕ → List ℕ
-finish_leaves FinishStage.Leaving todo = todo
-finish_leaves _ todo = []
-
-abbrev pub to_leave : Operation → List ℕ
-to_leave (Operation.Removing o) = removal_leaves o.stage o.todo
-to_leave (Operation.Surprising o) = surprise_leaves o.stage o.todo
-to_leave (Operation.Finishing f) = finish_leaves f.stage f.todo
-to_leave _ = []
-
--- what is asked in a stage
-abbrev pub rebalance_minor : RebalanceStage → Option Minor
-rebalance_minor (RebalanceStage.Asking w) = Some Minor.QueryStop
-rebalance_minor (RebalanceStage.TakingBack w) = Some Minor.CancelStop
-rebalance_minor (RebalanceStage.Cancelling w) = Some Minor.CancelStop
-rebalance_minor (RebalanceStage.Stopping w) = Some Minor.Stop
-rebalance_minor (RebalanceStage.Restarting w) = Some Minor.Start
-rebalance_minor _ = None
-
-abbrev pub removal_minor : RemovalStage → Option Minor
-removal_minor (RemovalStage.Asking w) = Some Minor.QueryRemove
-removal_minor (RemovalStage.TakingBack w) = Some Minor.CancelRemove
-removal_minor (RemovalStage.Cancelling w) = Some Minor.CancelRemove
-removal_minor (RemovalStage.Removing w) = Some Minor.Remove
-removal_minor _ = None
-
-abbrev pub surprise_minor : SurpriseStage → Option Minor
-surprise_minor (SurpriseStage.Telling w) = Some Minor.SurpriseRemoval
-surprise_minor (SurpriseStage.Removing w) = Some Minor.Remove
-surprise_minor _ = None
-
-abbrev pub finish_minor : FinishStage → Option Minor
-finish_minor (FinishStage.Removing w) = Some Minor.Remove
-finish_minor _ = None
-
-abbrev pub operation_minor : Operation → Option Minor
-operation_minor (Operation.Rebalancing r) = rebalance_minor r.stage
-operation_minor (Operation.Removing o) = removal_minor o.stage
-operation_minor (Operation.Surprising o) = surprise_minor o.stage
-operation_minor (Operation.Finishing f) = finish_minor f.stage
-
--- and in a phase of a start
+-- what is asked in a phase of a start
 abbrev pub phase_minor : Phase → Option Minor
 phase_minor (Phase.Starting w) = Some Minor.Start
 phase_minor (Phase.Removing w) = Some Minor.Remove
 phase_minor _ = None
 
--- a walk is of the request of its stage
-abbrev pub IsOwn : Option Walk → Option Minor → Type 0
-IsOwn walk minor = option_map (λ w. w.minor) walk ≡ minor
-
 abbrev pub PhaseOwn : Phase → Type 0
 PhaseOwn phase = IsOwn (phase_walk phase) (phase_minor phase)
 
-abbrev pub OperationOwn : Operation → Type 0
-OperationOwn o = IsOwn (operation_walk o) (operation_minor o)
-
 -- An operation as it is where its next device is taken: as it was, or at the request or the settling that begins for the device
-pub data Turn (s : State) : Operation → Operation → Type 0 where
-  same : (o : Operation) → Turn s o o
-  queries : (o : Removal) (node : Node) → o.stage ≡ RemovalStage.Next → first_node s.core.nodes o.todo ≡ Some node → refuses_unasked s.handles node ≡ false
-      → Turn s (Operation.Removing o) (Operation.Removing (queried o))
-  removes : (o : Surprise) (node : Node) (d : ℕ) (ds : List ℕ) → o.stage ≡ SurpriseStage.Next → first_node s.core.nodes o.todo ≡ Some node → stays_behind s.core o s.handles node.serial ≡ false
-      → node.stack ≡ d ∷ ds → Turn s (Operation.Surprising o) (Operation.Surprising (removing o))
-  settles : (o : Surprise) (node : Node) → o.stage ≡ SurpriseStage.Next → first_node s.core.nodes o.todo ≡ Some node → stays_behind s.core o s.handles node.serial ≡ false
-      → node.stack ≡ [] → Turn s (Operation.Surprising o) (Operation.Surprising (record o { stage = SurpriseStage.Settling }))
-  finishes : (f : Finish) (k : ℕ) (node : Node) → f.stage ≡ FinishStage.Next → ready_device s.core s.handles ≡ Some k → node_at k s.core.nodes ≡ Some node
-      → Turn s (Operation.Finishing f) (Operation.Finishing (taken f node))
+pub data Turn (s : State) : Job → Job → Type 0 where
+  same : (o : Job) → Turn s o o
+  queries : (o : Job) (node : Node) → course_of o.kind ≡ Course.Removing → o.stage ≡ Stage.Next → o.walk ≡ None → first_node s.core.nodes o.todo ≡ Some node → refuses_unasked s.handles node ≡ false
+      → Turn s o (queried o)
+  removes : (o : Job) (node : Node) (d : ℕ) (ds : List ℕ) → course_of o.kind ≡ Course.Surprising → o.stage ≡ Stage.Next → o.walk ≡ None → first_node s.core.nodes o.todo ≡ Some node
+      → stays_behind s.core o s.handles node.serial ≡ false → node.stack ≡ d ∷ ds → Turn s o (removing o)
+  settles : (o : Job) (node : Node) → course_of o.kind ≡ Course.Surprising → o.stage ≡ Stage.Next → o.walk ≡ None → first_node s.core.nodes o.todo ≡ Some node
+      → stays_behind s.core o s.handles node.serial ≡ false → node.stack ≡ [] → Turn s o (stands o o.todo Stage.Settling)
+  finishes : (f : Job) (k : ℕ) (node : Node) → course_of f.kind ≡ Course.Finishing → f.stage ≡ Stage.Next → f.walk ≡ None → ready_device s.core s.handles ≡ Some k → node_at k s.core.nodes ≡ Some node
+      → Turn s f (taken f node)
 
 -- this operation runs, its next device taken
-pub record Running (s : State) (o : Operation) : Type 0 where
-  pub before : Operation
+pub record Running (s : State) (o : Job) : Type 0 where
+  pub before : Job
   pub runs : s.operation ≡ Some before
   pub turn : Turn s before o
 
 -- a walk of the operation that runs, at its first device
-pub record Asking (s : State) (node : Node) (minor : Minor) (w : Walk) : Type 0 where
-  pub operation : Operation
+pub record Asking (s : State) (node : Node) (w : Walk) : Type 0 where
+  pub operation : Job
   pub runs : Running s operation
-  pub first : first_node s.core.nodes (todo_of operation) ≡ Some node
-  pub walk : operation_walk operation ≡ Some w
-  pub minor_is : operation_minor operation ≡ Some minor
+  pub first : first_node s.core.nodes operation.todo ≡ Some node
+  pub walk : operation.walk ≡ Some w
 
 -- the request whose walk through the drivers of a device ends: by the start of the device, or by the operation that runs
 pub data Request (s : State) (node : Node) : Minor → Walk → Type 0 where
   starts : (w : Walk) → Acting s node.serial (Phase.Starting w) → Request s node Minor.Start w
   undoes : (w : Walk) → Acting s node.serial (Phase.Removing w) → Request s node Minor.Remove w
-  operates : (minor : Minor) (w : Walk) → Asking s node minor w → Request s node minor w
+  operates : (w : Walk) → Asking s node w → Request s node w.minor w
 
 -- only requests that may fail end badly
 abbrev pub ends_bad : Minor → Walk → Bool
@@ -210,11 +155,11 @@ pub data NodeEffect (s : State) (label : Label) (t : State) : Type 0 where
       → label ≡ Label.State node.path (state_after Minor.Remove false node.state)
       → t.core.nodes ≡ changed_first (is_node node.serial) bare s.core.nodes → t.core.relations ≡ forget node.serial s.core.relations → NodeEffect s label t
   -- the plan of a rebalance or a change is used
-  commits : (r : Rebalance) → s.operation ≡ Some (Operation.Rebalancing r) → r.stage ≡ RebalanceStage.Committing
+  commits : (r : Job) → s.operation ≡ Some r → course_of r.kind ≡ Course.Rebalancing → r.stage ≡ Stage.Committing
       → t.core.nodes ≡ map (committed r.wanted r.target (movers r) (plan_of r.found)) s.core.nodes → t.core.relations ≡ s.core.relations → NodeEffect s label t
   joins : (node : Node) (d : Device) → s.operation ≡ None → node_at node.serial s.core.nodes ≡ Some node → node.state ≡ Started
       → joining node.born s.core.nodes s.world ≡ Some d → record { label = label; state = t } ≡ join_step s node d → NodeEffect s label t
-  left : (node : Node) (o : Operation) → Running s o → first_node s.core.nodes (to_leave o) ≡ Some node
+  left : (node : Node) (o : Job) → Running s o → first_node s.core.nodes (to_leave o) ≡ Some node
       → t.core.nodes ≡ without_first (is_node node.serial) s.core.nodes → t.core.relations ≡ s.core.relations → NodeEffect s label t
   related : (r : Relation) → Related s r → t.core.nodes ≡ s.core.nodes → t.core.relations ≡ s.core.relations ++ r ∷ [] → NodeEffect s label t
 
@@ -285,7 +230,7 @@ pub record Plugged (s : State) (entry : Entry) (d : Device) : Type 0 where
 abbrev pub Unplugs : State → Entry → ℕ → Type 0
 Unplugs s (Happens event label) born = (d : Device) × (path : Text) × (device_of path s.world ≡ Some d) × (d.born ≡ born) × ((d.born == 0) ≡ false)
 Unplugs s (Declines label) born = ⊥
-Unplugs s (Did label) born = (node : Node) × (o : Removal) × (s.operation ≡ Some (Operation.Removing o)) × (o.stage ≡ RemovalStage.Settling) × (first_node s.core.nodes o.todo ≡ Some node) × (node.born ≡ born)
+Unplugs s (Did label) born = (node : Node) × (o : Job) × (s.operation ≡ Some o) × (course_of o.kind ≡ Course.Removing) × (o.stage ≡ Stage.Settling) × (first_node s.core.nodes o.todo ≡ Some node) × (node.born ≡ born)
 
 pub data WorldEffect (s : State) (entry : Entry) (t : State) : Type 0 where
   same : t.world ≡ s.world → t.next_born ≡ s.next_born → WorldEffect s entry t
@@ -296,7 +241,7 @@ pub data WorldEffect (s : State) (entry : Entry) (t : State) : Type 0 where
 
 pub data PathEffect (s : State) (label : Label) (t : State) : Type 0 where
   same : t.disabled ≡ s.disabled → PathEffect s label t
-  disables : (o : Removal) (node : Node) → s.operation ≡ Some (Operation.Removing o) → first_node s.core.nodes o.todo ≡ Some node → label ≡ Label.Trouble node.path Problem.Disabled
+  disables : (o : Job) (node : Node) → s.operation ≡ Some o → course_of o.kind ≡ Course.Removing → first_node s.core.nodes o.todo ≡ Some node → label ≡ Label.Trouble node.path Problem.Disabled
       → t.disabled ≡ s.disabled ++ node.path ∷ [] → PathEffect s label t
   enables : (path : Text) → t.disabled ≡ without_first (folding.same path) s.disabled → PathEffect s label t
 
@@ -323,13 +268,13 @@ required s node None = []
 required s node (Some d) = let_through node.parent d s
 
 -- the operation of a kind, as it begins
-abbrev pub begun : State → OpKind → Node → Operation
-begun s OpKind.Rebalance node = Operation.Rebalancing (begun_rebalance s.core node)
-begun s OpKind.Disable node = Operation.Removing (begun_removal s.core OpKind.Disable node)
-begun s OpKind.Eject node = Operation.Removing (begun_removal s.core OpKind.Eject node)
-begun s OpKind.Surprise node = Operation.Surprising (begun_surprise s.core node)
-begun s OpKind.Finish node = Operation.Finishing (begun_finish node)
-begun s OpKind.Change node = Operation.Rebalancing (begun_change s.core node (required s node (device_born node.born s.world)))
+abbrev pub begun : State → OpKind → Node → Job
+begun s OpKind.Rebalance node = begun_rebalance s.core node
+begun s OpKind.Disable node = begun_removal s.core OpKind.Disable node
+begun s OpKind.Eject node = begun_removal s.core OpKind.Eject node
+begun s OpKind.Surprise node = begun_surprise s.core node
+begun s OpKind.Finish node = begun_finish node
+begun s OpKind.Change node = begun_change s.core node (required s node (device_born node.born s.world))
 
 -- what is tested before it begins
 abbrev pub BeginsFor : State → OpKind → Node → Type 0
@@ -340,13 +285,11 @@ BeginsFor s OpKind.Finish node = is_ready_device s.core s.handles node ≡ true
 BeginsFor s OpKind.Change node = (node.state ≡ Started) × (is_some (device_born node.born s.world) ≡ true)
 BeginsFor s _ node = Unit {0}
 
-pub record SameWork (o p : Operation) : Type 0 where
-  pub sort : is_removal p ≡ is_removal o
-  pub kind : kind_of p ≡ kind_of o
-  pub path : path_of p ≡ path_of o
+pub record SameWork (o p : Job) : Type 0 where
+  pub kind : p.kind ≡ o.kind
+  pub path : p.path ≡ o.path
   pub spared : spared p ≡ spared o
-  pub wanted : wanted_by p ≡ wanted_by o
-  pub own : OperationOwn o → OperationOwn p
+  pub wanted : p.wanted ≡ o.wanted
 
 -- an activity prints the problem that it owes
 pub record Owes (s : State) (label : Label) : Type 0 where
@@ -362,35 +305,38 @@ pub data AnswerEffect (s : State) (label : Label) (t : State) : Type 0 where
   stays : IsWord label → t.core.nodes ≡ s.core.nodes → t.activities ≡ s.activities → t.operation ≡ s.operation → AnswerEffect s label t
   answers : IsWord label → t.core.nodes ≡ s.core.nodes → (k : ℕ) (a : Activity) (ok : Bool) → activity_at k s.activities ≡ Some a
       → t.activities ≡ changed_first (is_activity k) (with_phase (completed_phase (answer_of ok) a.phase)) s.activities → t.operation ≡ s.operation → AnswerEffect s label t
-  answered : IsWord label → t.core.nodes ≡ s.core.nodes → t.activities ≡ s.activities → (ok : Bool) (o : Operation) → s.operation ≡ Some o → t.operation ≡ Some (completed (answer_of ok) o) → AnswerEffect s label t
+  answered : IsWord label → t.core.nodes ≡ s.core.nodes → t.activities ≡ s.activities → (ok : Bool) (o : Job) → s.operation ≡ Some o → t.operation ≡ Some (completed (answer_of ok) o) → AnswerEffect s label t
 
 -- with the end of a rebalance its target has an activity again, or a device above it is not up; with that of a change
 -- nothing begins
-abbrev pub ClosesRebalance : State → Rebalance → State → Option Reqs → Type 0
+abbrev pub ClosesRebalance : State → Job → State → Option Reqs → Type 0
 ClosesRebalance s r t None =
     ((phase : Phase) × (t.activities ≡ entered (record { serial = r.target; phase = phase }) s.activities)) ⊎ (stands_up t.core.nodes r.target ≡ false)
 ClosesRebalance s r t (Some wanted) = Unit {0}
 
 -- a surprise removal ends where all have left, or at its target, which comes last
-abbrev pub Closes : State → Operation → State → Type 0
-Closes s (Operation.Rebalancing r) t = ClosesRebalance s r t r.wanted
-Closes s (Operation.Surprising o) t =
-    (o.stage ≡ SurpriseStage.Ending) ⊎ ((o.stage ≡ SurpriseStage.Settling) × (node : Node) × (first_node s.core.nodes o.todo ≡ Some node) × (node.serial ≡ o.target))
-Closes s _ t = Unit {0}
+abbrev pub ClosesIn : State → Job → State → Course → Type 0
+ClosesIn s r t Course.Rebalancing = ClosesRebalance s r t r.wanted
+ClosesIn s o t Course.Surprising =
+    (o.stage ≡ Stage.Ending) ⊎ ((o.stage ≡ Stage.Settling) × (node : Node) × (first_node s.core.nodes o.todo ≡ Some node) × (node.serial ≡ o.target))
+ClosesIn s o t _ = Unit {0}
+
+abbrev pub Closes : State → Job → State → Type 0
+Closes s o t = ClosesIn s o t (course_of o.kind)
 
 -- problem 12, where nothing is found
-abbrev pub Conflicts : Operation → Label → Type 0
-Conflicts (Operation.Rebalancing r) label = (r.stage ≡ RebalanceStage.Stuck) × (label ≡ Label.Trouble r.path Problem.NormalConflict)
-Conflicts _ label = ⊥
+abbrev pub Conflicts : Job → Label → Type 0
+Conflicts r label =
+    (course_of r.kind ≡ Course.Rebalancing) × (r.stage ≡ Stage.Stuck) × (label ≡ Label.Trouble r.path Problem.NormalConflict)
 
 -- in a step none runs; or one begins, goes on, or ends
 pub data OpEffect (s : State) (label : Label) (t : State) : Type 0 where
   idles : s.operation ≡ None → t.operation ≡ None → IsBeside label ⊎ Owes s label → OpEffect s label t
   begins : (kind : OpKind) (node : Node) → s.operation ≡ None → s.activities ≡ [] → node_at node.serial s.core.nodes ≡ Some node → BeginsFor s kind node
       → record { label = label; state = t } ≡ begin s kind node (begun s kind node) → OpEffect s label t
-  goes : (o p : Operation) → s.operation ≡ Some o → t.operation ≡ Some p → SameWork o p
+  goes : (o p : Job) → s.operation ≡ Some o → t.operation ≡ Some p → SameWork o p
       → IsBeside label ⊎ Conflicts o label → OpEffect s label t
-  ends : (o : Operation) (result : OpEnd) → Running s o → t.operation ≡ None → label ≡ Label.End (kind_of o) (path_of o) result → EndsBy (is_removal o) result → Closes s o t
+  ends : (o : Job) (result : OpEnd) → Running s o → t.operation ≡ None → label ≡ Label.End o.kind o.path result → EndsBy (is_removal (course_of o.kind)) result → Closes s o t
       → OpEffect s label t
 
 abbrev pub OperationEffect : State → Entry → State → Type 0
@@ -403,9 +349,9 @@ OperationEffect s (Declines label) t = OpEffect s label t
 -- why the start of a device begins in a phase: its drivers were chosen; or the rebalance for it closes
 pub data Enters (s : State) (k : ℕ) (t : State) : Phase → Type 0 where
   installs : (drivers : List ℕ) → Chosen s k drivers → t.tasks ≡ drop 1 s.tasks → t.core.nodes ≡ changed_first (is_node k) (with_problem None) s.core.nodes → Enters s k t (adding drivers)
-  restarts : (r : Rebalance) (plan : List (List Res)) → s.operation ≡ Some (Operation.Rebalancing r) → r.wanted ≡ None → r.stage ≡ RebalanceStage.Ending → r.target ≡ k → r.found ≡ assignment plan → t.core.nodes ≡ s.core.nodes
+  restarts : (r : Job) (plan : List (List Res)) → s.operation ≡ Some r → course_of r.kind ≡ Course.Rebalancing → r.wanted ≡ None → r.stage ≡ Stage.Ending → r.target ≡ k → r.found ≡ assignment plan → t.core.nodes ≡ s.core.nodes
       → Enters s k t (Phase.Starting (walk_of Minor.Start))
-  undoes : (r : Rebalance) → s.operation ≡ Some (Operation.Rebalancing r) → r.wanted ≡ None → r.target ≡ k → Enters s k t (Phase.Removing (walk_of Minor.Remove))
+  undoes : (r : Job) → s.operation ≡ Some r → course_of r.kind ≡ Course.Rebalancing → r.wanted ≡ None → r.target ≡ k → Enters s k t (Phase.Removing (walk_of Minor.Remove))
 
 -- how the start of device k goes on
 pub data PhaseStep (s : State) (k : ℕ) (t : State) : Phase → Phase → Type 0 where
@@ -462,7 +408,7 @@ Surprises s task t =
     is_surprise_task task.kind ≡ true
     → (node_at task.serial s.core.nodes ≡ None)
     ⊎ (((node : Node) × (node_at task.serial s.core.nodes ≡ Some node) × (node.state ≡ SurpriseRemoved))
-    ⊎ ((node : Node) × (node_at task.serial s.core.nodes ≡ Some node) × (t.operation ≡ Some (Operation.Surprising (begun_surprise s.core node)))))
+    ⊎ ((node : Node) × (node_at task.serial s.core.nodes ≡ Some node) × (t.operation ≡ Some (begun_surprise s.core node))))
 
 pub data TaskEffect (s t : State) : Type 0 where
   same : t.tasks ≡ s.tasks → TaskEffect s t
@@ -471,7 +417,7 @@ pub data TaskEffect (s t : State) : Type 0 where
   joins : t.next_serial ≡ s.next_serial + 1 → t.tasks ≡ s.tasks ++ record { kind = Duty.Starting; serial = s.next_serial } ∷ [] → TaskEffect s t
   dropped : (task : Task) → s.operation ≡ None → slice_get s.tasks 0 ≡ Some task → Surprises s task t → t.tasks ≡ drop 1 s.tasks → TaskEffect s t
   -- the surprise removal of a device that failed its restart
-  put_first : (node : Node) (r : Rebalance) → s.operation ≡ Some (Operation.Rebalancing r) → r.stage ≡ RebalanceStage.Failed → first_node s.core.nodes r.todo ≡ Some node
+  put_first : (node : Node) (r : Job) → s.operation ≡ Some r → course_of r.kind ≡ Course.Rebalancing → r.stage ≡ Stage.Failed → first_node s.core.nodes r.todo ≡ Some node
       → t.tasks ≡ record { kind = Duty.Begins OpKind.Surprise; serial = node.serial } ∷ s.tasks → TaskEffect s t
 
 abbrev pub TasksEffect : State → Entry → State → Type 0

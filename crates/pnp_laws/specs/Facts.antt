@@ -1,10 +1,10 @@
 -- What each state of a run keeps, also while an operation runs: of relations and children, of starts, and of devices that are
 -- Stopped, or hold something, though they are not up.
-use Rattle.std.specs.Prelude.{ℕ, ◌≡◌, ◌≢◌, ◌⊎◌, true, List, [], Option, Some, Contains}
+use Rattle.std.specs.Prelude.{ℕ, ◌≡◌, ◌≢◌, ◌⊎◌, true, List, [], Option, Some, None, Contains}
 use Rattle.pnp_labels.specs.declared.states.DevState.TheVariants.{NoStack, NotStarted, Stopped}
 use Rattle.pnp_model.specs.Cores.{node_at}
 use Rattle.pnp_model.specs.Laws.{Reaches}
-use Rattle.pnp_model.specs.Records.{Core, Driver, Node, Operation, Rebalance, RebalanceStage, Relation, Settings, State, Surprise, SurpriseStage}
+use Rattle.pnp_model.specs.Records.{Core, Driver, Node, Relation, Settings, State, Job, Course, Stage, course_of}
 use Rattle.pnp_model.specs.Runs.{Entry}
 use Rattle.pnp_model.specs.Tests.{has}
 use Rattle.pnp_model.specs.Trees.{children}
@@ -33,7 +33,7 @@ IdleChildless c = (k : ℕ) (n : Node) → node_at k c.nodes ≡ Some n → (n.s
 
 -- while an operation runs no device is being started
 abbrev pub StartsWait : State → Type 0
-StartsWait s = (o : Operation) → s.operation ≡ Some o → s.activities ≡ []
+StartsWait s = (o : Job) → s.operation ≡ Some o → s.activities ≡ []
 
 -- Who is Stopped, or holds something and is not up ----------------------------------------------
 
@@ -42,35 +42,43 @@ abbrev pub IsAdrift : State → ℕ → Node → Type 0
 IsAdrift s k n = (n.state ≡ Stopped) ⊎ IsStray s k n
 
 -- whose START, or the problem after it, is still to come: all that agreed, and then those that are left of them
-abbrev pub to_restart : Rebalance → RebalanceStage → List ℕ
-to_restart r (RebalanceStage.Stopping w) = r.agreed
-to_restart r RebalanceStage.Committing = r.agreed
-to_restart r (RebalanceStage.Restarting w) = r.todo
-to_restart r RebalanceStage.Failed = r.todo
+abbrev pub to_restart : Job → Stage → List ℕ
+to_restart r Stage.Stopping = r.agreed
+to_restart r Stage.Committing = r.agreed
+to_restart r Stage.Restarting = r.todo
+to_restart r Stage.Failed = r.todo
 to_restart r _ = []
 
 -- those of the set that a surprise removal is still to finish: all of it while devices are told
-abbrev pub to_finish : Surprise → SurpriseStage → List ℕ
-to_finish o (SurpriseStage.Telling w) = o.set
-to_finish o SurpriseStage.Ending = []
+abbrev pub to_finish : Job → Stage → List ℕ
+to_finish o Stage.Telling = o.set
+to_finish o Stage.Ending = []
 to_finish o _ = o.todo
 
 -- in a rebalance or a change it is the device of the operation, NotStarted, or is to be started again; in a surprise removal it is of the set,
 -- and to be finished; no other operation sees to such a device
-abbrev pub SeenTo : Option Operation → ℕ → Node → Type 0
-SeenTo (Some (Operation.Rebalancing r)) k n = ((n.state ≡ NotStarted) × (r.target ≡ k)) ⊎ (has (to_restart r r.stage) k ≡ true)
-SeenTo (Some (Operation.Surprising o)) k n = (has o.set k ≡ true) × (has (to_finish o o.stage) k ≡ true)
-SeenTo _ k n = ⊥
+abbrev pub SeenIn : Course → Job → ℕ → Node → Type 0
+SeenIn Course.Rebalancing r k n = ((n.state ≡ NotStarted) × (r.target ≡ k)) ⊎ (has (to_restart r r.stage) k ≡ true)
+SeenIn Course.Surprising o k n = (has o.set k ≡ true) × (has (to_finish o o.stage) k ≡ true)
+SeenIn _ o k n = ⊥
+
+abbrev pub SeenTo : Option Job → ℕ → Node → Type 0
+SeenTo None k n = ⊥
+SeenTo (Some o) k n = SeenIn (course_of o.kind) o k n
 
 -- each such device is due: the first tasks have a surprise removal of it, or of a device above it; or the operation sees to it
 abbrev pub AdriftSeen : State → Type 0
 AdriftSeen s = (k : ℕ) (n : Node) → node_at k s.core.nodes ≡ Some n → IsAdrift s k n → (is_due s.tasks s.core.nodes k ≡ true) ⊎ SeenTo s.operation k n
 
 -- a disable, an eject or a finish
-abbrev pub StopsNobody : Option Operation → Type 0
-StopsNobody (Some (Operation.Removing o)) = Unit {0}
-StopsNobody (Some (Operation.Finishing f)) = Unit {0}
-StopsNobody _ = ⊥
+abbrev pub IsRemovalOrFinish : Course → Type 0
+IsRemovalOrFinish Course.Removing = Unit {0}
+IsRemovalOrFinish Course.Finishing = Unit {0}
+IsRemovalOrFinish _ = ⊥
+
+abbrev pub StopsNobody : Option Job → Type 0
+StopsNobody None = ⊥
+StopsNobody (Some o) = IsRemovalOrFinish (course_of o.kind)
 
 abbrev pub NobodyAdrift : State → Type 0
 NobodyAdrift s = (k : ℕ) (n : Node) → node_at k s.core.nodes ≡ Some n → IsAdrift s k n → ⊥

@@ -3,14 +3,16 @@ use Rattle.std.specs.Prelude.{ℕ, suc, ◌≡◌, ◌≢◌, ◌<◌, ◌≤◌
 use Rattle.pnp_model.specs.Tests.{has, is_started, is_no_stack, is_told, is_surprise_removed}
 use Rattle.pnp_model.specs.Removals.{is_queried}
 use Rattle.std.specs.List.{slice_get}
+use Rattle.std.specs.Option.{option_map}
 use Rattle.resource_reqs.specs.Resources.{Reqs}
 use Rattle.pnp_model.specs.Trees.{leaving}
 use Rattle.pnp_model.specs.Cores.{node_at}
 use Rattle.pnp_model.specs.States.{activity_at}
-use Rattle.pnp_model.specs.Records.{Node, Core, Task, Activity, Phase, State, Operation, Rebalance, RebalanceStage, Removal, RemovalStage, Surprise, SurpriseStage, Finish, FinishStage, Duty}
+use Rattle.pnp_model.specs.Records.{Node, Core, Task, Activity, Phase, State, Walk, Duty, Job, Course, Stage, course_of}
 use Rattle.pnp_model.specs.Records.Phase.{Adding, Searching, Starting, Removing, Due}
 use Rattle.pnp_labels.specs.declared.states.DevState.{DevState}
 use Rattle.pnp_labels.specs.declared.label.OpKind.{OpKind}
+use Rattle.pnp_labels.specs.declared.words.Minor.{Minor}
 use Rattle.pnp_labels.specs.declared.states.DevState.TheVariants.{NoStack, NotStarted, Started, StopPending, Stopped, RemovePending, SurpriseRemoved}
 
 -- Which state a device has --------------------------------------------------------
@@ -79,17 +81,16 @@ stopping_state todo agreed k x = if has todo k then is_stop_pending x else (if h
 abbrev pub stopped_state : List ℕ → ℕ → DevState → Bool
 stopped_state todo k x = if has todo k then is_stopped x else is_calm x
 
-abbrev pub rebalance_state : Rebalance → RebalanceStage → ℕ → DevState → Bool
-rebalance_state r (RebalanceStage.Asking w) k x = asking_state r.todo r.agreed k x
-rebalance_state r (RebalanceStage.TakingBack w) k x = asking_state r.todo r.agreed k x
-rebalance_state r RebalanceStage.Searching k x = pending_state r.agreed k x
-rebalance_state r (RebalanceStage.Cancelling w) k x = pending_state r.todo k x
-rebalance_state r RebalanceStage.Stuck k x = is_calm x
-rebalance_state r (RebalanceStage.Stopping w) k x = stopping_state r.todo r.agreed k x
-rebalance_state r RebalanceStage.Committing k x = stopped_state r.agreed k x
-rebalance_state r (RebalanceStage.Restarting w) k x = stopped_state r.todo k x
-rebalance_state r RebalanceStage.Failed k x = stopped_state r.todo k x
-rebalance_state r RebalanceStage.Ending k x = is_calm x
+abbrev pub rebalance_state : Job → Stage → ℕ → DevState → Bool
+rebalance_state r Stage.Asking k x = asking_state r.todo r.agreed k x
+rebalance_state r Stage.TakingBack k x = asking_state r.todo r.agreed k x
+rebalance_state r Stage.Searching k x = pending_state r.agreed k x
+rebalance_state r Stage.Cancelling k x = pending_state r.todo k x
+rebalance_state r Stage.Stopping k x = stopping_state r.todo r.agreed k x
+rebalance_state r Stage.Committing k x = stopped_state r.agreed k x
+rebalance_state r Stage.Restarting k x = stopped_state r.todo k x
+rebalance_state r Stage.Failed k x = stopped_state r.todo k x
+rebalance_state r _ k x = is_calm x
 
 -- the devices still to ask are Started or wait to be finished, those that agreed are pending, others of the set were never up
 abbrev pub turn_state : List ℕ → List ℕ → List ℕ → ℕ → DevState → Bool
@@ -116,25 +117,25 @@ finishing_state todo k x = if has todo k then is_removable x else is_calm x
 abbrev pub settling_state : List ℕ → ℕ → DevState → Bool
 settling_state todo k x = if at_head todo k then is_no_stack x else (if has todo k then is_removable x else is_calm x)
 
-abbrev pub removal_state : Removal → RemovalStage → ℕ → DevState → Bool
-removal_state o RemovalStage.Next k x = turn_state o.todo o.agreed o.set k x
-removal_state o (RemovalStage.Asking w) k x = querying_state o.todo o.agreed o.set k x
-removal_state o (RemovalStage.TakingBack w) k x = refusing_state o.todo o.agreed k x
-removal_state o (RemovalStage.Cancelling w) k x = restoring_state o.todo k x
-removal_state o (RemovalStage.Removing w) k x = removing_state o.todo k x
-removal_state o RemovalStage.Settling k x = settling_state o.todo k x
-removal_state o RemovalStage.Ending k x = is_calm x
+abbrev pub removal_state : Job → Stage → ℕ → DevState → Bool
+removal_state o Stage.Next k x = turn_state o.todo o.agreed o.set k x
+removal_state o Stage.Asking k x = querying_state o.todo o.agreed o.set k x
+removal_state o Stage.TakingBack k x = refusing_state o.todo o.agreed k x
+removal_state o Stage.Cancelling k x = restoring_state o.todo k x
+removal_state o Stage.Removing k x = removing_state o.todo k x
+removal_state o Stage.Settling k x = settling_state o.todo k x
+removal_state o _ k x = is_calm x
 
 -- the devices still to tell are up or Stopped, others of the set may lose their drivers
 abbrev pub telling_state : List ℕ → List ℕ → ℕ → DevState → Bool
 telling_state todo set k x = if has todo k then is_told x else (if has set k then is_removable x else is_calm x)
 
-abbrev pub surprise_state : Surprise → SurpriseStage → ℕ → DevState → Bool
-surprise_state o (SurpriseStage.Telling w) k x = telling_state o.todo o.set k x
-surprise_state o SurpriseStage.Next k x = finishing_state o.todo k x
-surprise_state o (SurpriseStage.Removing w) k x = removing_state o.todo k x
-surprise_state o SurpriseStage.Settling k x = settling_state o.todo k x
-surprise_state o SurpriseStage.Ending k x = is_calm x
+abbrev pub surprise_state : Job → Stage → ℕ → DevState → Bool
+surprise_state o Stage.Telling k x = telling_state o.todo o.set k x
+surprise_state o Stage.Next k x = finishing_state o.todo k x
+surprise_state o Stage.Removing k x = removing_state o.todo k x
+surprise_state o Stage.Settling k x = settling_state o.todo k x
+surprise_state o _ k x = is_calm x
 
 -- the device that is being finished is SurpriseRemoved, and then has no drivers
 abbrev pub taken_state : List ℕ → ℕ → DevState → Bool
@@ -143,11 +144,11 @@ taken_state todo k x = if at_head todo k then is_surprise_removed x else is_calm
 abbrev pub emptied_state : List ℕ → ℕ → DevState → Bool
 emptied_state todo k x = if at_head todo k then is_no_stack x else is_calm x
 
-abbrev pub finish_state : Finish → FinishStage → ℕ → DevState → Bool
-finish_state f FinishStage.Next k x = is_calm x
-finish_state f (FinishStage.Removing w) k x = taken_state f.todo k x
-finish_state f FinishStage.Leaving k x = emptied_state f.todo k x
-finish_state f FinishStage.Holding k x = emptied_state f.todo k x
+abbrev pub finish_state : Job → Stage → ℕ → DevState → Bool
+finish_state f Stage.Removing k x = taken_state f.todo k x
+finish_state f Stage.Leaving k x = emptied_state f.todo k x
+finish_state f Stage.Holding k x = emptied_state f.todo k x
+finish_state f _ k x = is_calm x
 
 -- each device passes its test
 abbrev pub Each : (ℕ → DevState → Bool) → List Node → Type 0
@@ -191,14 +192,49 @@ abbrev pub TargetFits : Option Reqs → ℕ → List Node → Type 0
 TargetFits None k nodes = Waits k nodes
 TargetFits (Some wanted) k nodes = Changes k nodes
 
-abbrev pub RebalanceAsks : Rebalance → RebalanceStage → Type 0
-RebalanceAsks r (RebalanceStage.Asking w) = Apart r.todo r.agreed
-RebalanceAsks r (RebalanceStage.TakingBack w) = Apart r.todo r.agreed
-RebalanceAsks r (RebalanceStage.Stopping w) = Within r.todo r.agreed
-RebalanceAsks r RebalanceStage.Stuck = r.wanted ≡ None
-RebalanceAsks r _ = Unit {0}
+-- the request that is on its way is the one of the stage
 
-pub record RebalanceKeeps (r : Rebalance) (stage : RebalanceStage) (nodes : List Node) : Type 0 where
+abbrev pub asked_in : Course → Stage → Option Minor
+asked_in Course.Rebalancing Stage.Asking = Some Minor.QueryStop
+asked_in Course.Rebalancing Stage.TakingBack = Some Minor.CancelStop
+asked_in Course.Rebalancing Stage.Cancelling = Some Minor.CancelStop
+asked_in Course.Rebalancing Stage.Stopping = Some Minor.Stop
+asked_in Course.Rebalancing Stage.Restarting = Some Minor.Start
+asked_in Course.Removing Stage.Asking = Some Minor.QueryRemove
+asked_in Course.Removing Stage.TakingBack = Some Minor.CancelRemove
+asked_in Course.Removing Stage.Cancelling = Some Minor.CancelRemove
+asked_in Course.Removing Stage.Removing = Some Minor.Remove
+asked_in Course.Surprising Stage.Telling = Some Minor.SurpriseRemoval
+asked_in Course.Surprising Stage.Removing = Some Minor.Remove
+asked_in Course.Finishing Stage.Removing = Some Minor.Remove
+asked_in _ _ = None
+
+abbrev pub IsOwn : Option Walk → Option Minor → Type 0
+IsOwn walk minor = option_map (λ w. w.minor) walk ≡ minor
+
+-- what is still to do, by the stage; no other stage is one of the course
+
+abbrev pub RebalanceAsks : Job → Stage → Type 0
+RebalanceAsks r Stage.Asking = Apart r.todo r.agreed
+RebalanceAsks r Stage.TakingBack = Apart r.todo r.agreed
+RebalanceAsks r Stage.Searching = Unit {0}
+RebalanceAsks r Stage.Cancelling = Unit {0}
+RebalanceAsks r Stage.Stuck = r.wanted ≡ None
+RebalanceAsks r Stage.Stopping = Within r.todo r.agreed
+RebalanceAsks r Stage.Committing = Unit {0}
+RebalanceAsks r Stage.Restarting = Unit {0}
+RebalanceAsks r Stage.Failed = Unit {0}
+RebalanceAsks r Stage.Ending = Unit {0}
+RebalanceAsks r _ = ⊥
+
+-- a change wants something for its target, a rebalance does not
+abbrev pub kind_by : Option Reqs → OpKind
+kind_by None = OpKind.Rebalance
+kind_by (Some wanted) = OpKind.Change
+
+pub record RebalanceKeeps (r : Job) (stage : Stage) (nodes : List Node) : Type 0 where
+  pub kind : r.kind ≡ kind_by r.wanted
+  pub own : IsOwn r.walk (asked_in Course.Rebalancing stage)
   pub todo : Distinct r.todo
   pub agreed : Distinct r.agreed
   pub rootless : has r.todo 0 ≡ false
@@ -207,13 +243,18 @@ pub record RebalanceKeeps (r : Rebalance) (stage : RebalanceStage) (nodes : List
   pub each : Each (rebalance_state r stage) nodes
   pub waits : TargetFits r.wanted r.target nodes
 
-abbrev pub RemovalAsks : Removal → RemovalStage → Type 0
-RemovalAsks o RemovalStage.Next = Apart o.todo o.agreed × Within o.agreed o.set × Within o.todo o.set
-RemovalAsks o (RemovalStage.Asking w) = Apart o.todo o.agreed × Within o.agreed o.set × Within o.todo o.set
-RemovalAsks o (RemovalStage.TakingBack w) = Apart o.todo o.agreed × Within o.agreed o.set × Within o.todo o.set
-RemovalAsks o _ = Within o.todo o.set
+abbrev pub RemovalAsks : Job → Stage → Type 0
+RemovalAsks o Stage.Next = Apart o.todo o.agreed × Within o.agreed o.set × Within o.todo o.set
+RemovalAsks o Stage.Asking = Apart o.todo o.agreed × Within o.agreed o.set × Within o.todo o.set
+RemovalAsks o Stage.TakingBack = Apart o.todo o.agreed × Within o.agreed o.set × Within o.todo o.set
+RemovalAsks o Stage.Cancelling = Within o.todo o.set
+RemovalAsks o Stage.Removing = Within o.todo o.set
+RemovalAsks o Stage.Settling = Within o.todo o.set
+RemovalAsks o Stage.Ending = Within o.todo o.set
+RemovalAsks o _ = ⊥
 
-pub record RemovalKeeps (o : Removal) (stage : RemovalStage) (nodes : List Node) : Type 0 where
+pub record RemovalKeeps (o : Job) (stage : Stage) (nodes : List Node) : Type 0 where
+  pub own : IsOwn o.walk (asked_in Course.Removing stage)
   pub set : Distinct o.set
   pub rootless : has o.set 0 ≡ false
   pub todo : Distinct o.todo
@@ -222,11 +263,16 @@ pub record RemovalKeeps (o : Removal) (stage : RemovalStage) (nodes : List Node)
   pub each : Each (removal_state o stage) nodes
 
 -- while devices are finished, what is still to do ends with the target
-abbrev pub SurpriseEnds : Surprise → SurpriseStage → Type 0
-SurpriseEnds o (SurpriseStage.Telling w) = Unit {0}
-SurpriseEnds o _ = IsLast o.target o.todo
+abbrev pub SurpriseEnds : Job → Stage → Type 0
+SurpriseEnds o Stage.Telling = Unit {0}
+SurpriseEnds o Stage.Next = IsLast o.target o.todo
+SurpriseEnds o Stage.Removing = IsLast o.target o.todo
+SurpriseEnds o Stage.Settling = IsLast o.target o.todo
+SurpriseEnds o Stage.Ending = IsLast o.target o.todo
+SurpriseEnds o _ = ⊥
 
-pub record SurpriseKeeps (o : Surprise) (stage : SurpriseStage) (nodes : List Node) : Type 0 where
+pub record SurpriseKeeps (o : Job) (stage : Stage) (nodes : List Node) : Type 0 where
+  pub own : IsOwn o.walk (asked_in Course.Surprising stage)
   pub set : Distinct o.set
   pub rootless : has o.set 0 ≡ false
   pub last : IsLast o.target o.set
@@ -237,20 +283,27 @@ pub record SurpriseKeeps (o : Surprise) (stage : SurpriseStage) (nodes : List No
   pub calm : Each (λ k x. is_not_pending x) nodes
 
 -- one device is being finished, and it is not the root
-abbrev pub OneIsNext : Finish → FinishStage → Type 0
-OneIsNext f FinishStage.Next = f.todo ≡ []
-OneIsNext f _ = (k : ℕ) × (f.todo ≡ k ∷ []) × (k ≢ 0)
+abbrev pub OneIsNext : Job → Stage → Type 0
+OneIsNext f Stage.Next = f.todo ≡ []
+OneIsNext f Stage.Removing = (k : ℕ) × (f.todo ≡ k ∷ []) × (k ≢ 0)
+OneIsNext f Stage.Leaving = (k : ℕ) × (f.todo ≡ k ∷ []) × (k ≢ 0)
+OneIsNext f Stage.Holding = (k : ℕ) × (f.todo ≡ k ∷ []) × (k ≢ 0)
+OneIsNext f _ = ⊥
 
-pub record FinishKeeps (f : Finish) (stage : FinishStage) (nodes : List Node) : Type 0 where
+pub record FinishKeeps (f : Job) (stage : Stage) (nodes : List Node) : Type 0 where
+  pub own : IsOwn f.walk (asked_in Course.Finishing stage)
   pub one : OneIsNext f stage
   pub each : Each (finish_state f stage) nodes
 
-abbrev pub OperationFits : Option Operation → List Node → Type 0
+abbrev pub JobFits : Course → Job → List Node → Type 0
+JobFits Course.Rebalancing j nodes = RebalanceKeeps j j.stage nodes
+JobFits Course.Removing j nodes = RemovalKeeps j j.stage nodes
+JobFits Course.Surprising j nodes = SurpriseKeeps j j.stage nodes
+JobFits Course.Finishing j nodes = FinishKeeps j j.stage nodes
+
+abbrev pub OperationFits : Option Job → List Node → Type 0
 OperationFits None nodes = Each (λ k x. is_calm x) nodes
-OperationFits (Some (Operation.Rebalancing r)) nodes = RebalanceKeeps r r.stage nodes
-OperationFits (Some (Operation.Removing o)) nodes = RemovalKeeps o o.stage nodes
-OperationFits (Some (Operation.Surprising o)) nodes = SurpriseKeeps o o.stage nodes
-OperationFits (Some (Operation.Finishing f)) nodes = FinishKeeps f f.stage nodes
+OperationFits (Some j) nodes = JobFits (course_of j.kind) j nodes
 
 -- which state a device has in a phase of its start
 abbrev pub Fits : Phase → DevState → Type 0
@@ -288,11 +341,11 @@ InOrder lo [] = Unit {0}
 InOrder lo (a ∷ rest) = (lo ≤ a.serial) × InOrder (suc a.serial) rest
 
 -- no activity exists while an operation runs
-abbrev pub Alone : Option Operation → List Activity → Type 0
+abbrev pub Alone : Option Job → List Activity → Type 0
 Alone None activities = Unit {0}
 Alone (Some o) activities = activities ≡ []
 
-pub record Good (next : ℕ) (nodes : List Node) (activities : List Activity) (operation : Option Operation) : Type 0 where
+pub record Good (next : ℕ) (nodes : List Node) (activities : List Activity) (operation : Option Job) : Type 0 where
   pub begun : 0 < next
   pub serials : Ascending 0 nodes
   pub below : AllBelow next nodes

@@ -7,7 +7,7 @@ use Rattle.pnp_labels.specs.declared.states.Problem.{Problem}
 use Rattle.pnp_labels.specs.declared.label.Label.{Label}
 use Rattle.pnp_model.specs.Cores.{node_at}
 use Rattle.pnp_model.specs.Laws.{NothingFits, Reaches}
-use Rattle.pnp_model.specs.Records.{Driver, Node, Operation, Rebalance, Settings, State}
+use Rattle.pnp_model.specs.Records.{Driver, Node, Settings, State, Job, Course, course_of}
 use Rattle.pnp_model.specs.Runs.{Entry, Goes, printed}
 use Rattle.pnp_laws.specs.Rebalanced.{StaysOut}
 
@@ -23,8 +23,9 @@ pub record AreFreeBy (nodes : List Node) (refused movers : List ℕ) : Type 0 wh
 -- a rebalance runs for the device of the path, and nothing fits this device and all that can move by its list, beside what all others hold and
 -- what is reserved
 pub record IsHopelessBy (s : State) (path : Text) : Type 0 where
-  pub frame : Rebalance
-  pub runs : s.operation ≡ Some (Operation.Rebalancing frame)
+  pub frame : Job
+  pub runs : s.operation ≡ Some frame
+  pub course : course_of frame.kind ≡ Course.Rebalancing
   pub plain : frame.wanted ≡ None
   pub node : Node
   pub there : node_at frame.target s.core.nodes ≡ Some node

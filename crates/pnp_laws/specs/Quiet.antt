@@ -1,7 +1,7 @@
 -- When a machine rests, and that else exactly one step is next.
 use Rattle.std.specs.Prelude.{◌≡◌, ◌≢◌, ◌↔◌, true, List, [], Option, Some, None, find, slice_get}
-use Rattle.pnp_model.specs.Records.{Driver, Activity, Task, State, Settings, Operation, Duty}
-use Rattle.pnp_model.specs.Machine.{Steps, IsQuiet, is_waiting, operation_walk, is_ready}
+use Rattle.pnp_model.specs.Records.{Driver, Activity, Task, State, Settings, Duty, Job}
+use Rattle.pnp_model.specs.Machine.{Steps, IsQuiet, is_waiting, is_ready}
 use Rattle.pnp_model.specs.Laws.{Reaches}
 use Rattle.pnp_model.specs.Runs.{Entry}
 use Rattle.pnp_labels.specs.declared.label.Label.{Label}
@@ -18,8 +18,8 @@ NoTask (Some task) activities = Delays task.kind activities
 
 -- the operation that runs waits for an answer; or none runs, each activity waits for one, and the first task, if
 -- there is one, begins an operation, for which there is still an activity
-abbrev pub RestsWith : State → Option Operation → Type 0
-RestsWith s (Some o) = is_waiting (operation_walk o) ≡ true
+abbrev pub RestsWith : State → Option Job → Type 0
+RestsWith s (Some o) = is_waiting o.walk ≡ true
 RestsWith s None = (find is_ready s.activities ≡ None) × NoTask (slice_get s.tasks 0) s.activities
 
 abbrev pub Rests : State → Type 0

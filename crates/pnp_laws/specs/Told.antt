@@ -1,21 +1,20 @@
 -- Which device changes its state where a line is printed, and by which request.
-use Rattle.std.specs.Prelude.{ℕ, ◌≡◌, ◌⊎◌, true, List, Some, None, length}
+use Rattle.std.specs.Prelude.{ℕ, ◌≡◌, ◌⊎◌, true, List, Some, None, length, slice_get}
 use Rattle.pnp_labels.specs.Texts.{Text}
 use Rattle.pnp_labels.specs.declared.label.Label.{Label}
 use Rattle.pnp_labels.specs.declared.states.DevState.{DevState}
 use Rattle.pnp_model.specs.Cores.{node_at}
 use Rattle.pnp_model.specs.Diagram.{Row}
-use Rattle.pnp_model.specs.Events.{operation_at}
 use Rattle.pnp_model.specs.Laws.{Reaches}
-use Rattle.pnp_model.specs.Machine.{operation_walk, phase_walk}
-use Rattle.pnp_model.specs.Records.{Activity, Driver, Node, Operation, Settings, State, Walk}
+use Rattle.pnp_model.specs.Machine.{phase_walk}
+use Rattle.pnp_model.specs.Records.{Activity, Driver, Node, Settings, State, Walk, Job}
 use Rattle.pnp_model.specs.Runs.{Entry, Goes, printed}
 use Rattle.pnp_model.specs.States.{activity_at}
 use Rattle.pnp_model.specs.Walks.{has_ended, is_bad}
 
 -- the request that is on its way to the device: of the operation that runs, where it is the first device, or of its start
 pub data IsWalkOf (s : State) (k : ℕ) (w : Walk) : Type 0 where
-  operates : (o : Operation) → s.operation ≡ Some o → operation_at o ≡ Some k → operation_walk o ≡ Some w → IsWalkOf s k w
+  operates : (o : Job) → s.operation ≡ Some o → slice_get o.todo 0 ≡ Some k → o.walk ≡ Some w → IsWalkOf s k w
   starts : (a : Activity) → s.operation ≡ None → activity_at k s.activities ≡ Some a → phase_walk a.phase ≡ Some w → IsWalkOf s k w
 
 -- the path whose device may change its state where this is printed

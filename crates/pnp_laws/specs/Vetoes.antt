@@ -1,8 +1,8 @@
 -- A veto restores: what a removal keeps since its begin.
-use Rattle.std.specs.Prelude.{ℕ, ◌≡◌, ◌⊎◌, List, [], ◌∷◌, None}
+use Rattle.std.specs.Prelude.{ℕ, ◌≡◌, ◌⊎◌, List, [], ◌∷◌}
 use Rattle.pnp_model.specs.Keyed.{changed_first}
 use Rattle.pnp_model.specs.Cores.{is_node, with_state}
-use Rattle.pnp_model.specs.Records.{Node, Core, Removal, RemovalStage}
+use Rattle.pnp_model.specs.Records.{Node, Core, Job, Stage}
 use Rattle.pnp_labels.specs.declared.states.DevState.{DevState}
 use Rattle.pnp_labels.specs.declared.states.DevState.TheVariants.{Started, RemovePending}
 
@@ -26,11 +26,12 @@ pub record Held (state : DevState) (before now : Core) (agreed : List ℕ) : Typ
   pub relations : now.relations ≡ before.relations
   pub reserved : now.reserved ≡ before.reserved
 
-abbrev pub Since : Core → Core → Removal → RemovalStage → Type 0
-Since before now o RemovalStage.Next = Held RemovePending before now o.agreed × (o.refuser ≡ None)
-Since before now o (RemovalStage.Asking w) = Held RemovePending before now o.agreed × (o.refuser ≡ None)
-Since before now o (RemovalStage.TakingBack w) = Held RemovePending before now o.agreed
-Since before now o (RemovalStage.Cancelling w) = Held RemovePending before now o.todo
-Since before now o (RemovalStage.Removing w) = o.refuser ≡ None
-Since before now o RemovalStage.Settling = o.refuser ≡ None
-Since before now o RemovalStage.Ending = (o.refuser ≡ None) ⊎ Held RemovePending before now []
+abbrev pub Since : Core → Core → Job → Stage → Type 0
+Since before now o Stage.Next = Held RemovePending before now o.agreed × (o.refused ≡ [])
+Since before now o Stage.Asking = Held RemovePending before now o.agreed × (o.refused ≡ [])
+Since before now o Stage.TakingBack = Held RemovePending before now o.agreed
+Since before now o Stage.Cancelling = Held RemovePending before now o.todo
+Since before now o Stage.Removing = o.refused ≡ []
+Since before now o Stage.Settling = o.refused ≡ []
+Since before now o Stage.Ending = (o.refused ≡ []) ⊎ Held RemovePending before now []
+Since before now o _ = ⊥

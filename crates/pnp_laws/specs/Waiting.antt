@@ -1,5 +1,5 @@
 -- Devices that wait to be finished, and open handles: who has a handle, who was told that it has gone, and which task sees to it.
-use Rattle.std.specs.Prelude.{ℕ, suc, ◌≡◌, ◌≤◌, ◌==◌, Bool, true, false, ◌&&◌, List, [], ◌∷◌, Option, Some}
+use Rattle.std.specs.Prelude.{ℕ, suc, ◌≡◌, ◌≤◌, ◌==◌, Bool, true, false, ◌&&◌, List, [], ◌∷◌, Option, Some, None}
 use Rattle.std.specs.List.{list_any}
 use Rattle.pnp_labels.specs.declared.label.OpKind.{OpKind}
 use Rattle.pnp_labels.specs.declared.states.DevState.{DevState}
@@ -7,7 +7,7 @@ use Rattle.pnp_labels.specs.declared.states.DevState.TheVariants.{Started, StopP
 use Rattle.pnp_model.specs.Cores.{node_at}
 use Rattle.pnp_model.specs.Handles.{is_open, is_ready_device}
 use Rattle.pnp_model.specs.Laws.{Reaches}
-use Rattle.pnp_model.specs.Records.{Core, Driver, Duty, Handle, Node, Operation, Settings, State, Task}
+use Rattle.pnp_model.specs.Records.{Core, Driver, Duty, Handle, Node, Settings, State, Task, Job, Course, course_of}
 use Rattle.pnp_model.specs.Runs.{Entry}
 use Rattle.pnp_model.specs.Tests.{has}
 use Rattle.pnp_model.specs.Trees.{dependents, hangs_on}
@@ -52,10 +52,14 @@ DependentsTold c =
     (k : ℕ) (n : Node) → node_at k c.nodes ≡ Some n → n.state ≡ SurpriseRemoved → (j : ℕ) (m : Node) → has (dependents c k) j ≡ true → node_at j c.nodes ≡ Some m → m.state ≡ SurpriseRemoved
 
 -- neither a surprise removal nor a finish runs
-abbrev pub NeitherRuns : Option Operation → Type 0
-NeitherRuns (Some (Operation.Surprising o)) = ⊥
-NeitherRuns (Some (Operation.Finishing f)) = ⊥
-NeitherRuns _ = Unit {0}
+abbrev pub IsNeither : Course → Type 0
+IsNeither Course.Surprising = ⊥
+IsNeither Course.Finishing = ⊥
+IsNeither _ = Unit {0}
+
+abbrev pub NeitherRuns : Option Job → Type 0
+NeitherRuns None = Unit {0}
+NeitherRuns (Some o) = IsNeither (course_of o.kind)
 
 -- in each state of a run in which neither runs
 abbrev pub DependentsToldLaw : Type 0

@@ -1,13 +1,9 @@
 -- Words of operations, labels and activities that several laws share.
-use Rattle.std.specs.Prelude.{ℕ, Bool, true, false, List, [], ◌∷◌, Option, None}
-use Rattle.resource_reqs.specs.Resources.{Reqs}
-use Rattle.pnp_model.specs.Rebalances as rebalances
-use Rattle.pnp_model.specs.Records.{Activity, Phase, Operation}
+use Rattle.std.specs.Prelude.{ℕ, Bool, true, false, List, [], ◌∷◌}
+use Rattle.pnp_model.specs.Records.{Activity, Phase, Job, Course, course_of}
 use Rattle.pnp_model.specs.Records.Phase.{Due}
-use Rattle.pnp_labels.specs.Texts.{Text}
 use Rattle.pnp_labels.specs.declared.states.Problem.{Problem}
 use Rattle.pnp_labels.specs.declared.label.Label.{Label}
-use Rattle.pnp_labels.specs.declared.label.OpKind.{OpKind}
 use Rattle.pnp_labels.specs.declared.label.OpEnd.{OpEnd}
 
 -- Joins ------------------------------------------------------------------------------
@@ -23,33 +19,19 @@ joined _ = 0
 
 -- Operations ---------------------------------------------------------------------------
 
-abbrev pub kind_of : Operation → OpKind
-kind_of (Operation.Rebalancing r) = rebalances.kind_of r.wanted
-kind_of (Operation.Removing o) = o.kind
-kind_of (Operation.Surprising o) = OpKind.Surprise
-kind_of (Operation.Finishing f) = OpKind.Finish
-
-abbrev pub path_of : Operation → Text
-path_of (Operation.Rebalancing r) = r.path
-path_of (Operation.Removing o) = o.path
-path_of (Operation.Surprising o) = o.path
-path_of (Operation.Finishing f) = f.path
-
-abbrev pub is_removal : Operation → Bool
-is_removal (Operation.Removing o) = true
+abbrev pub is_removal : Course → Bool
+is_removal Course.Removing = true
 is_removal _ = false
 
 -- who may hold something as long as the operation runs, though nothing else is to come of it: the target of a rebalance,
 -- and those that a surprise removal takes
-abbrev pub spared : Operation → List ℕ
-spared (Operation.Rebalancing r) = r.target ∷ []
-spared (Operation.Surprising o) = o.set
-spared _ = []
+abbrev pub spared_in : Job → Course → List ℕ
+spared_in j Course.Rebalancing = j.target ∷ []
+spared_in j Course.Surprising = j.set
+spared_in j _ = []
 
--- what the target of a change requires from the commit on
-abbrev pub wanted_by : Operation → Option Reqs
-wanted_by (Operation.Rebalancing r) = r.wanted
-wanted_by _ = None
+abbrev pub spared : Job → List ℕ
+spared j = spared_in j (course_of j.kind)
 
 -- it is not problem 12
 abbrev pub NotTwelve : Problem → Type 0

@@ -7,7 +7,7 @@ use Rattle.inf_reader.specs.declared.parts.Inf.{Inf}
 use Rattle.pnp_model.specs.Cores.{node_at, forget}
 use Rattle.pnp_model.specs.Handles.{was_told}
 use Rattle.pnp_model.specs.Machine.{Steps, IsStep, idle_next, activity_next, start_lifted, is_ready}
-use Rattle.pnp_model.specs.Records.{Node, Core, Driver, Relation, Activity, Phase, State, Settings, Operation, Task, Doing, doing_map, Duty}
+use Rattle.pnp_model.specs.Records.{Node, Core, Driver, Relation, Activity, Phase, State, Settings, Job, Task, Doing, doing_map, Duty}
 use Rattle.pnp_model.specs.Records.Doing.{Does, Searches}
 use Rattle.pnp_model.specs.Starts.{StartMove, StartBeside, act}
 use Rattle.pnp_model.specs.States.{activity_at}
@@ -63,7 +63,7 @@ nodes_alone ds t e = let put : ℕ → Devices = λ i. record ds { tree = record
 pub beside_stays : (ds : Devices) (t : Tree) (rs : List Relation) → t.next ≡ ds.tree.next → StaysBeside ds (record ds { tree = t; relations = rs })
 beside_stays ds t rs e = let put : ℕ → Devices = λ i. record ds { tree = record t { next = i }; relations = rs } in ap put e
 
-module _ (ds ds' : Devices) (rack rack' : List Driver) (disabled : List Text) (works works' : List Activity) (operation : Option Operation) (tasks tasks' : List Task)
+module _ (ds ds' : Devices) (rack rack' : List Driver) (disabled : List Text) (works works' : List Activity) (operation : Option Job) (tasks tasks' : List Task)
     (stays : ds' ≡ with_nodes ds ds'.tree.nodes) where
   abbrev s : State
   s = state_of ds rack disabled works operation tasks
@@ -111,7 +111,7 @@ module _ (ds ds' : Devices) (rack rack' : List Driver) (disabled : List Text) (w
       (done infs budget a.serial (act s.core n a.phase) step phase (for_node apart) works_is tasks_is))
 
 -- the step of the lowest start is the machine's
-pub acted : (ds ds' : Devices) (rack rack' : List Driver) (disabled : List Text) (works works' : List Activity) (operation : Option Operation) (tasks tasks' : List Task) (infs : List Inf) (budget k : ℕ) (step : StartStep)
+pub acted : (ds ds' : Devices) (rack rack' : List Driver) (disabled : List Text) (works works' : List Activity) (operation : Option Job) (tasks tasks' : List Task) (infs : List Inf) (budget k : ℕ) (step : StartStep)
     → IsOfRun (state_of ds rack disabled works operation tasks) → IsTurn (turns.Act k) (state_of ds rack disabled works operation tasks)
     → ActsFor budget (activity_at k works) works ds rack step works' ds' rack' → tasks' ≡ tasks_after step k tasks
     → Steps (settings_of infs budget) (state_of ds rack disabled works operation tasks) (label_of step) (state_of ds' rack' disabled works' operation tasks')

@@ -6,11 +6,9 @@ use Rattle.pnp_labels.specs.declared.label.OpKind.{OpKind}
 use Rattle.pnp_labels.specs.declared.states.DevState.{DevState}
 use Rattle.pnp_labels.specs.declared.states.DevState.TheVariants.{NoStack, NotStarted, Started, StopPending, Stopped, RemovePending, SurpriseRemoved}
 use Rattle.pnp_model.specs.Cores.{node_at}
-use Rattle.pnp_model.specs.Rebalances.{begun_rebalance, begun_change}
-use Rattle.pnp_model.specs.Records as machines
-use Rattle.pnp_model.specs.Records.{Device, Driver, Finish, Node, Rebalance, Removal, Surprise, State}
+use Rattle.pnp_model.specs.Rebalances.{begun_change}
+use Rattle.pnp_model.specs.Records.{Core, Device, Job, Node, Relation, State}
 use Rattle.pnp_model.specs.Records.Duty.{Begins}
-use Rattle.pnp_model.specs.Removals.{begun_removal}
 use Rattle.pnp_model.specs.Surprises.{begun_surprise}
 use Rattle.pnp_model.specs.Finishes.{begun_finish}
 use Rattle.pnp_model.specs.Handles.{was_told}
@@ -22,31 +20,31 @@ use Rattle.resource_reqs.specs.Resources.{Reqs}
 use Rattle.script_bus.proofs.Unplugs.{by_bool}
 use Rattle.pnp_machine.specs.Devices.{Devices, wanted_at, wanted_of}
 use Rattle.pnp_laws.proofs.Lookups.{own_serial}
-use Rattle.rebalance.specs.Begins as rebalances
-use Rattle.query_remove.specs.Begins as removals
-use Rattle.surprise_remove.specs.Begins as surprises
-use Rattle.surprise_remove.specs.FinishFrames as finishes
+use Rattle.operation_frame.specs.Steps.{BegunFor}
 use Rattle.surprise_remove.specs.Ready.{is_ready_at}
-use Rattle.pnp_machine.specs.Machines.{IsDone, DoneFor, begun_with, can_rebalance, is_disabled, is_disabled_node}
-use Rattle.pnp_machine.specs.declared.operation.Operation.TheVariants as declared
+use Rattle.pnp_machine.specs.Machines.{IsDone, DoneFor, can_rebalance, is_disabled, is_disabled_node}
+
+-- where the begin reads the device alone
+pub any_relations : (kind : OpKind) (begun : Node → Job) (o : Option Node) (nodes : List Node) (rs rs' : List Relation) (line : Label) (j : Job) → BegunFor kind (λ c n. begun n) o nodes rs line j → BegunFor kind (λ c n. begun n) o nodes rs' line j
+any_relations kind begun None nodes rs rs' line j h = absurd h
+any_relations kind begun (Some n) nodes rs rs' line j h = h
 
 module _ (s t : State) (label line : Label) (own : label ≡ line) where
-  pub rebalance_begun : (r : Rebalance) (o : Option Node) → rebalances.BegunFor None o s.core.nodes line r → t ≡ begun_with (declared.Rebalancing r) s
-      → DoneFor o (λ n. begin s OpKind.Rebalance n (machines.Operation.Rebalancing (begun_rebalance s.core n))) label t
-  rebalance_begun r None h is = absurd h
-  rebalance_begun r (Some n) (e, f) is =
-      (own ∙ e, is ∙ ap (λ x. set_operation (Some (machines.Operation.Rebalancing x)) (drop_task s)) (f s.core))
+  pub job_begun : (kind : OpKind) (begun : Core → Node → Job) (j : Job) (o : Option Node) → BegunFor kind begun o s.core.nodes s.core.relations line j → t ≡ set_operation (Some j) (drop_task s)
+      → DoneFor o (λ n. begin s kind n (begun s.core n)) label t
+  job_begun kind begun j None h is = absurd h
+  job_begun kind begun j (Some n) (e, f) is = (own ∙ e, is ∙ ap (λ (x : Job). set_operation (Some x) (drop_task s)) (f s.core))
 
   -- what the world's device requires, as it comes through, is what the change wants
-  pub change_begun : (ds : Devices) (wanted : Reqs) (r : Rebalance) (o : Option Node) → ds.world.devices ≡ s.world → ds.tree.nodes ≡ s.core.nodes → ds.windows ≡ s.windows → Some wanted ≡ wanted_at ds o
-      → rebalances.BegunFor (Some wanted) o s.core.nodes line r → t ≡ begun_with (declared.Rebalancing r) s → DoneFor o (λ n. change_task s n n.state) label t
+  pub change_begun : (ds : Devices) (wanted : Reqs) (r : Job) (o : Option Node) → ds.world.devices ≡ s.world → ds.tree.nodes ≡ s.core.nodes → ds.windows ≡ s.windows → Some wanted ≡ wanted_at ds o
+      → BegunFor OpKind.Change (λ c n. begun_change c n wanted) o s.core.nodes s.core.relations line r → t ≡ set_operation (Some r) (drop_task s) → DoneFor o (λ n. change_task s n n.state) label t
   change_begun ds wanted r None a b c w h is = absurd h
   change_begun ds wanted r (Some n) a b c w (e, f) is = by_state n.state refl
     where
       told : (d : Device) → device_born n.born s.world ≡ Some d → wanted ≡ let_through n.parent d s → IsDone (change_born s n (device_born n.born s.world)) label t
       told d at same =
           subst (λ (x : Option Device). IsDone (change_born s n x) label t) (sym at)
-          (own ∙ e, is ∙ ap (λ x. set_operation (Some (machines.Operation.Rebalancing x)) (drop_task s)) (f s.core ∙ ap (begun_change s.core n) same))
+          (own ∙ e, is ∙ ap (λ (x : Job). set_operation (Some x) (drop_task s)) (f s.core ∙ ap (begun_change s.core n) same))
 
       by_device : (o : Option Device) → device_born n.born ds.world.devices ≡ o → Some wanted ≡ wanted_of ds n o → IsDone (change_born s n (device_born n.born s.world)) label t
       by_device None at q = absurd (cc)
@@ -66,23 +64,6 @@ module _ (s t : State) (label line : Label) (own : label ≡ line) where
           (λ e h g. up state q g)
           (λ e h g. absurd (cc))
           (w ∙ ap (λ x. cond (is_started x) (wanted_of ds n (device_born n.born ds.world.devices)) None) q) refl
-
-  pub removal_begun : (kind : OpKind) (r : Removal) (o : Option Node) → removals.BegunFor o s.core.nodes s.core.relations kind line r → t ≡ begun_with (declared.Removing r) s
-      → DoneFor o (λ n. begin s kind n (machines.Operation.Removing (begun_removal s.core kind n))) label t
-  removal_begun kind r None h is = absurd h
-  removal_begun kind r (Some n) (e, f) is =
-      (own ∙ e, is ∙ ap (λ x. set_operation (Some (machines.Operation.Removing x)) (drop_task s)) (f s.core))
-
-  pub surprise_begun : (o : Surprise) (x : Option Node) → surprises.BegunFor x s.core.nodes s.core.relations line o → t ≡ begun_with (declared.Surprising o) s
-      → DoneFor x (λ n. begin s OpKind.Surprise n (machines.Operation.Surprising (begun_surprise s.core n))) label t
-  surprise_begun o None h is = absurd h
-  surprise_begun o (Some n) (e, f) is =
-      (own ∙ e, is ∙ ap (λ x. set_operation (Some (machines.Operation.Surprising x)) (drop_task s)) (f s.core))
-
-  pub finish_begun : (f : Finish) (x : Option Node) → finishes.BegunFor x line f → t ≡ begun_with (declared.Finishing f) s
-      → DoneFor x (λ n. begin s OpKind.Finish n (machines.Operation.Finishing (begun_finish n))) label t
-  finish_begun f None h is = absurd h
-  finish_begun f (Some n) (e, same) is = (own ∙ e, is ∙ ap (λ x. set_operation (Some (machines.Operation.Finishing x)) (drop_task s)) same)
 
 module _ (s : State) (k : ℕ) (label : Label) (t : State) where
   -- a device that is not there or not NotStarted needs none
@@ -162,11 +143,11 @@ module _ (s : State) (k : ℕ) (label : Label) (t : State) where
           by_state RemovePending q = absurd (let up = ap is_surprise_removed q in cc)
 
   -- any other is
-  surprises_it : was_told (node_at k s.core.nodes) ≡ false → DoneFor (node_at k s.core.nodes) (λ n. begin s OpKind.Surprise n (machines.Operation.Surprising (begun_surprise s.core n))) label t
+  surprises_it : was_told (node_at k s.core.nodes) ≡ false → DoneFor (node_at k s.core.nodes) (λ n. begin s OpKind.Surprise n (begun_surprise s.core n)) label t
       → IsDone (begin_step s OpKind.Surprise k (node_at k s.core.nodes)) label t
   surprises_it untold h = by_node (node_at k s.core.nodes) untold h
     where
-      by_node : (o : Option Node) → was_told o ≡ false → DoneFor o (λ n. begin s OpKind.Surprise n (machines.Operation.Surprising (begun_surprise s.core n))) label t
+      by_node : (o : Option Node) → was_told o ≡ false → DoneFor o (λ n. begin s OpKind.Surprise n (begun_surprise s.core n)) label t
           → IsDone (begin_step s OpKind.Surprise k o) label t
       by_node None b h = absurd h
       by_node (Some n) b h = by_state n.state refl
@@ -191,18 +172,18 @@ module _ (s : State) (k : ℕ) (label : Label) (t : State) where
           (subst (λ i. IsDone (skip (Begins OpKind.Finish) i s) label t) (sym (own_serial k n s.core.nodes e)) h)
 
   -- one that is ready is
-  finishes_it : is_ready_at s.core s.handles (node_at k s.core.nodes) ≡ true → DoneFor (node_at k s.core.nodes) (λ n. begin s OpKind.Finish n (machines.Operation.Finishing (begun_finish n))) label t
+  finishes_it : is_ready_at s.core s.handles (node_at k s.core.nodes) ≡ true → DoneFor (node_at k s.core.nodes) (λ n. begin s OpKind.Finish n (begun_finish n)) label t
       → IsDone (begin_step s OpKind.Finish k (node_at k s.core.nodes)) label t
   finishes_it ready h = by_node (node_at k s.core.nodes) ready h
     where
-      by_node : (o : Option Node) → is_ready_at s.core s.handles o ≡ true → DoneFor o (λ n. begin s OpKind.Finish n (machines.Operation.Finishing (begun_finish n))) label t
+      by_node : (o : Option Node) → is_ready_at s.core s.handles o ≡ true → DoneFor o (λ n. begin s OpKind.Finish n (begun_finish n)) label t
           → IsDone (begin_step s OpKind.Finish k o) label t
       by_node None b h = absurd h
       by_node (Some n) b h = subst (λ (x : Bool). IsDone (finish_task s n x) label t) (sym b) h
 
 -- the same where memory may be wanting
 pub finish_taken : (s : State) (k : ℕ) (t : State) (result : Result Label AllocError) → true ≡ is_ready_at s.core s.handles (node_at k s.core.nodes)
-    → IfOk result (λ label. DoneFor (node_at k s.core.nodes) (λ n. begin s OpKind.Finish n (machines.Operation.Finishing (begun_finish n))) label t)
+    → IfOk result (λ label. DoneFor (node_at k s.core.nodes) (λ n. begin s OpKind.Finish n (begun_finish n)) label t)
     → IfOk result (λ label. IsDone (begin_step s OpKind.Finish k (node_at k s.core.nodes)) label t)
 finish_taken s k t (Ok label) ready h = finishes_it s k label t (sym ready) h
 finish_taken s k t (Err refused) ready h = tt

@@ -8,7 +8,7 @@ use Rattle.pnp_labels.specs.declared.words.Answer.{Answer}
 use Rattle.pnp_model.specs.Cores.{node_at}
 use Rattle.pnp_model.specs.Laws.{Reaches}
 use Rattle.pnp_model.specs.Machine.{IsDeclined, Steps, beginning, is_begin, due, due_with, due_task, due_duty, due_alone}
-use Rattle.pnp_model.specs.Records.{Activity, Driver, Duty, Operation, Settings, State, Step, Task}
+use Rattle.pnp_model.specs.Records.{Activity, Driver, Duty, Job, Settings, State, Step, Task}
 use Rattle.pnp_model.specs.Runs.{Entry, Goes, Run, opening}
 use Rattle.pnp_model.specs.Runs.Entry.{Happens, Did, Declines}
 use Rattle.pnp_laws.specs.Ends.{events}
@@ -39,7 +39,7 @@ due_task_same : (s : State) (r : List Driver) (o : Option Task) → due_task (wi
 due_task_same s r None = refl
 due_task_same s r (Some task) = due_duty_same s r task.kind task.serial
 
-due_with_same : (s : State) (r : List Driver) (o : Option Operation) → due_with (with_rack r s) o ≡ due_with s o
+due_with_same : (s : State) (r : List Driver) (o : Option Job) → due_with (with_rack r s) o ≡ due_with s o
 due_with_same s r (Some o) = refl
 due_with_same s r None = due_task_same s r (slice_get s.tasks 0)
 

@@ -14,7 +14,7 @@ use Rattle.pnp_model.specs.Events.{finish_due, with_handles, happens, relates_tw
 use Rattle.pnp_model.proofs.Guards.{where_false, where_some, where_true}
 use Rattle.pnp_model.specs.Handles.{closed_with, is_handle_of, opened}
 use Rattle.pnp_model.specs.Machine.{is_born}
-use Rattle.pnp_model.specs.Records.{Node, Driver, Activity, Operation, State, Step, Task, Duty}
+use Rattle.pnp_model.specs.Records.{Node, Driver, Activity, Job, State, Step, Task, Duty}
 use Rattle.pnp_model.specs.States.{is_in_world, node_of}
 use Rattle.pnp_model.specs.Tests.{has_same, is_started, is_surprise_removed}
 use Rattle.resource_reqs.specs.Resources.{Reqs}
@@ -45,7 +45,7 @@ not_root : (n k : ℕ) → n ≡ k → (k ≡ 0 → ⊥) → (n == 0) ≡ false
 not_root n k own up = grind (arith, nat_tests, up)
 
 -- the state before, by its parts
-module _ (ds : Devices) (rack : List Driver) (paths : List Text) (works : List Activity) (operation : Option Operation) (tasks : List Task) (s0 : State) (is : state_of ds rack paths works operation tasks ≡ s0)
+module _ (ds : Devices) (rack : List Driver) (paths : List Text) (works : List Activity) (operation : Option Job) (tasks : List Task) (s0 : State) (is : state_of ds rack paths works operation tasks ≡ s0)
     (order : Ascends 0 (serials_of s0.core.nodes)) where
   abbrev s : State
   s = state_of ds rack paths works operation tasks

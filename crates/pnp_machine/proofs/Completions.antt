@@ -12,7 +12,7 @@ use Rattle.pnp_model.proofs.Guards.{where_false, where_none, where_some, where_t
 use Rattle.pnp_model.specs.Events.{happens, refused, completion, completes_at, completes_start, is_number, operation_waits, completed_phase, answer_of, waits_for}
 use Rattle.pnp_model.specs.Keyed.{changed_first}
 use Rattle.pnp_model.specs.Machine.{phase_walk}
-use Rattle.pnp_model.specs.Records.{Node, Driver, Walk, Activity, Operation, State, Step, Task}
+use Rattle.pnp_model.specs.Records.{Node, Driver, Walk, Activity, Job, State, Step, Task}
 use Rattle.pnp_model.specs.States.{activity_at, is_activity, node_of, with_phase}
 use Rattle.pnp_model.specs.Tests.{same_minor}
 use Rattle.device_stack.specs.Waiting.{minor_of, minor_if}
@@ -21,14 +21,14 @@ use Rattle.pnp_machine.specs.Devices.{Devices}
 use Rattle.pnp_machine.specs.Machines.{state_of, IsDone, IsAnswered, CompletesOperation, answer_label}
 use Rattle.pnp_machine.specs.Starts.{CompletesFor, CompletesIf}
 
-module _ (ds : Devices) (rack : List Driver) (paths : List Text) (works works' : List Activity) (operation operation' : Option Operation) (tasks : List Task) (minor : Minor) (ok : Bool) where
+module _ (ds : Devices) (rack : List Driver) (paths : List Text) (works works' : List Activity) (operation operation' : Option Job) (tasks : List Task) (minor : Minor) (ok : Bool) where
   abbrev old : State
   old = state_of ds rack paths works operation tasks
 
   abbrev new : State
   new = state_of ds rack paths works' operation' tasks
 
-  state_is : (w : List Activity) (o : Option Operation) → works' ≡ w → operation' ≡ o → new ≡ state_of ds rack paths w o tasks
+  state_is : (w : List Activity) (o : Option Job) → works' ≡ w → operation' ≡ o → new ≡ state_of ds rack paths w o tasks
   state_is w o e f = ap (λ x. state_of ds rack paths x operation' tasks) e ∙ ap (λ x. state_of ds rack paths w x tasks) f
 
   -- the step is known, so is what is done
@@ -62,7 +62,7 @@ module _ (ds : Devices) (rack : List Driver) (paths : List Text) (works works' :
       done_by (completes_at old n minor ok) (completes_start old n minor ok) (answer_label n minor ok done) (where_none operation _ _ none)
       (by_start n done (activity_at n.serial works) refl (subst (λ i. CompletesFor (activity_at i works) minor ok done works works') (sym own) h) same)
 
-  module _ (o o' : Operation) (runs : operation ≡ Some o) (runs' : operation' ≡ Some o') where
+  module _ (o o' : Job) (runs : operation ≡ Some o) (runs' : operation' ≡ Some o') where
     -- the operation had no such request
     pub answered_not : (k : ℕ) (done : Bool) → CompletesOperation (operation_waits minor k o) o ok false o' → CompletesFor (activity_at k works) minor ok done works works' → IsAnswered old k minor ok done new
     answered_not k done c h n own =

@@ -9,10 +9,9 @@ use Rattle.device_holdings.specs.MapRows.{row_of as row_of_pair}
 use Rattle.pnp_labels.specs.Texts.{Text}
 use Rattle.pnp_model.specs.Cores.{node_at, serials_of, core_of}
 use Rattle.pnp_model.specs.Endings.{Placed, placed, print_order, root_of, map_rows, joined, tree_line, map_line, ending, outstanding_line, outstanding_text, outstanding, operation_rows, at_row, activity_rows, walk_row, waiting_row, serial_before, Outstanding, handles_part}
-use Rattle.pnp_model.specs.Events.{operation_at}
 use Rattle.pnp_model.specs.Keyed.{in_order, put_before, those}
-use Rattle.pnp_model.specs.Machine.{phase_walk, operation_walk}
-use Rattle.pnp_model.specs.Records.{Node, Core, Driver, Handle, Activity, Operation, State, Walk}
+use Rattle.pnp_model.specs.Machine.{phase_walk}
+use Rattle.pnp_model.specs.Records.{Node, Core, Driver, Handle, Activity, Job, State, Walk}
 use Rattle.pnp_model.specs.Trees.{children, is_child}
 use Rattle.pnp_laws.specs.Kept.{InOrder}
 use Rattle.devnode_tree.specs.Rows.{row_of}
@@ -188,13 +187,13 @@ append_nothing [] = refl
 append_nothing (x ∷ xs) = ap (λ rest. x ∷ rest) (append_nothing xs)
 
 -- while an operation runs no device starts, so the rows stand in order
-rows_are : (operation : Option Operation) (works : List Activity) → InOrder 0 works → ((o : Operation) → operation ≡ Some o → works ≡ [])
+rows_are : (operation : Option Job) (works : List Activity) → InOrder 0 works → ((o : Job) → operation ≡ Some o → works ≡ [])
     → in_order serial_before (operation_rows operation ++ activity_rows works) ≡ operation_rows operation ++ activity_rows works
 rows_are None works order alone = in_order_same 0 (activity_rows works) (rows_in 0 works order)
 rows_are (Some o) works order alone =
     let none : activity_rows works ≡ [] = ap activity_rows (alone o refl) in
-    ap (λ rows. in_order serial_before (at_row (operation_walk o) (operation_at o) ++ rows)) none ∙ one_row (operation_at o) (operation_walk o)
-    ∙ sym (append_nothing (at_row (operation_walk o) (operation_at o))) ∙ ap (λ rows. at_row (operation_walk o) (operation_at o) ++ rows) (sym none)
+    ap (λ rows. in_order serial_before (at_row o.walk (slice_get o.todo 0) ++ rows)) none ∙ one_row (slice_get o.todo 0) o.walk
+    ∙ sym (append_nothing (at_row o.walk (slice_get o.todo 0))) ∙ ap (λ rows. at_row o.walk (slice_get o.todo 0) ++ rows) (sym none)
 
 -- a line of handles says nothing of what is related, asked or reserved
 handles_same : (c : Core) (handles : List Handle) → joined (handles_part c handles) ≡ handles_lines c.nodes handles
@@ -203,7 +202,7 @@ handles_same c (h ∷ hs) = refl
 
 -- The whole ---------------------------------------------------------------------------------------
 
-module _ (s : State) (order : InOrder 0 s.activities) (alone : (o : Operation) → s.operation ≡ Some o → s.activities ≡ []) where
+module _ (s : State) (order : InOrder 0 s.activities) (alone : (o : Job) → s.operation ≡ Some o → s.activities ≡ []) where
   abbrev nodes : List Node
   nodes = s.core.nodes
 

@@ -15,7 +15,7 @@ use Rattle.pnp_labels.specs.declared.words.DriverKind.{DriverKind}
 use Rattle.pnp_model.specs.Books.{is_named, is_unnamed, name_or_none, printed_name, driver_named, name_of}
 use Rattle.pnp_model.specs.Cores.{node_at, serials_of}
 use Rattle.pnp_model.specs.Events.{happens, refused, with_rule}
-use Rattle.pnp_model.specs.Records.{Node, Driver, Activity, Operation, State, Step, Task}
+use Rattle.pnp_model.specs.Records.{Node, Driver, Activity, Job, State, Step, Task}
 use Rattle.pnp_model.specs.States.{node_of}
 use Rattle.pnp_model.specs.Tests.{is_scripted}
 use Rattle.pnp_model.proofs.Guards.{where_false, where_none, where_some, where_true}
@@ -33,7 +33,7 @@ use Rattle.pnp_machine.specs.Machines.{state_of, IsDone}
 abbrev some_driver : Driver
 some_driver = record { kind = DriverKind.Steady; name = None; book = [] }
 
-module _ (ds : Devices) (old new : List Driver) (paths : List Text) (works : List Activity) (operation : Option Operation) (tasks : List Task) where
+module _ (ds : Devices) (old new : List Driver) (paths : List Text) (works : List Activity) (operation : Option Job) (tasks : List Task) where
   abbrev before : State
   before = state_of ds old paths works operation tasks
 

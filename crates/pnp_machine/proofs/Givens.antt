@@ -5,17 +5,17 @@ use Rattle.resource_reqs.specs.Resources.{Res, Reqs, Whole}
 use Rattle.pnp_labels.specs.declared.label.Label.{Label}
 use Rattle.pnp_labels.specs.declared.states.DevState.{DevState}
 use Rattle.pnp_labels.specs.declared.states.DevState.TheVariants.{NoStack, NotStarted, Started, StopPending, Stopped, RemovePending, SurpriseRemoved}
-use Rattle.pnp_model.specs.Records.{Node, Driver, Activity, Phase, State, Step, Settings, Operation, Rebalance, Removal, Surprise, Finish, Doing}
+use Rattle.pnp_model.specs.Records.{Node, Driver, Activity, Phase, State, Step, Settings, Job, Course, Doing, course_of}
 use Rattle.pnp_model.specs.Records.Phase.{Adding, Searching, Starting, Removing, Due}
 use Rattle.pnp_model.specs.Cores.{node_at, bare, forget, serials_of}
 use Rattle.pnp_model.specs.Handles.{was_told}
 use Rattle.pnp_model.specs.Laws.{Reaches, is_up_to_now}
-use Rattle.pnp_model.specs.Machine.{is_waiting, next, next_of, operation_next, operation_walk}
+use Rattle.pnp_model.specs.Machine.{is_waiting, next, next_of, operation_next}
 use Rattle.pnp_model.specs.Rebalances.{reqs_after}
 use Rattle.pnp_model.specs.Runs.{Entry, Goes, printed}
 use Rattle.pnp_model.specs.States.{activity_at}
 use Rattle.pnp_model.specs.Tests.{is_surprise_removed}
-use Rattle.pnp_laws.specs.Kept.{Alone, Ascending, Fits, IsGood, OperationFits, RebalanceKeeps, TargetFits, is_idle}
+use Rattle.pnp_laws.specs.Kept.{Alone, Ascending, Fits, IsGood, JobFits, OperationFits, RebalanceKeeps, TargetFits, is_idle}
 use Rattle.pnp_laws.specs.Quiet.{RestsWith}
 use Rattle.pnp_laws.specs.Reached.{IsReached}
 use Rattle.pnp_laws.proofs.EffectViews.{Origin, origin}
@@ -30,7 +30,8 @@ use Rattle.pnp_laws.proofs.RunsStep.{quiet_where_it_rests}
 use Rattle.pnp_laws.proofs.RunsWhole.{all_hold_whole}
 use Rattle.devnode_tree.specs.Trees.{Ascends}
 use Rattle.device_holdings.specs.MapRows.{IsOrderly}
-use Rattle.query_remove.specs.Steps as query
+use Rattle.operation_frame.specs.Steps.{HasNext}
+use Rattle.query_remove.specs.Parts as query
 use Rattle.query_remove.proofs.Given.{removal_ready}
 use Rattle.surprise_remove.specs.Steps as surprise
 use Rattle.surprise_remove.specs.FinishSteps as finish
@@ -50,7 +51,7 @@ not_changed (Some wanted) target n up own =
     let apart : (n.serial == target) ≡ false = grind (arith, nat_tests, up) in
     ap (λ (b : Bool). cond b wanted n.reqs) apart
 
-needs_committed : (r : Rebalance) (n : Node) (nodes : List Node) (wanted : Option Reqs) → r.wanted ≡ wanted → TargetFits wanted r.target nodes → node_at 0 nodes ≡ Some n → reqs_after r.wanted r.target n ≡ n.reqs
+needs_committed : (r : Job) (n : Node) (nodes : List Node) (wanted : Option Reqs) → r.wanted ≡ wanted → TargetFits wanted r.target nodes → node_at 0 nodes ≡ Some n → reqs_after r.wanted r.target n ≡ n.reqs
 needs_committed r n nodes None e fits at = ap (λ w. reqs_after w r.target n) e
 needs_committed r n nodes (Some wanted) e fits at = not_changed r.wanted r.target n fits.3 (own_serial 0 n nodes at)
 
@@ -61,8 +62,8 @@ needs_from s label t _ good h (Origin.troubled n problem at) = h n at
 needs_from s label t _ good h (Origin.stacks n d ds name at acts prints) = h n at
 needs_from s label t _ good h (Origin.assigned n phase plan at acts search part now) = h n at
 needs_from s label t _ good h (Origin.stripped n w at request prints) = h n at
-needs_from s label t _ good h (Origin.commits r n runs is at) =
-    let fits : RebalanceKeeps r r.stage s.core.nodes = subst (λ (o : Option Operation). OperationFits o s.core.nodes) runs good.fits in
+needs_from s label t _ good h (Origin.commits r n runs course is at) =
+    let fits : RebalanceKeeps r r.stage s.core.nodes = subst (λ (x : Course). JobFits x r s.core.nodes) course (subst (λ (o : Option Job). OperationFits o s.core.nodes) runs good.fits) in
     needs_committed r n s.core.nodes r.wanted refl fits.waits at ∙ h n at
 -- what joins is not the root
 needs_from s label t _ good h (Origin.joins node d below gone own) = absurd (let begun = good.begun in omega arith)
@@ -129,7 +130,7 @@ module _ (settings : Settings) (rack : List Driver) (entries : List Entry) (s : 
       }
 
   -- an operation that runs and does not wait can go on
-  pub operation_goes : (o : Operation) → s.operation ≡ Some o → is_waiting (operation_walk o) ≡ false → IsSome (operation_next s o false)
+  pub operation_goes : (o : Job) → s.operation ≡ Some o → is_waiting o.walk ≡ false → IsSome (operation_next s o false)
   operation_goes o runs awake = by_next (operation_next s o false) refl
     where
       by_next : (x : Option (Doing Step)) → operation_next s o false ≡ x → IsSome x
@@ -140,17 +141,17 @@ module _ (settings : Settings) (rack : List Driver) (entries : List Entry) (s : 
       by_next (Some doing) e = refl
 
   -- a removal can take its step, and what it settles may leave
-  pub removal_goes : (o : Removal) → s.operation ≡ Some (Operation.Removing o) → query.HasNext s.core.nodes o o.stage × query.SettlesStripped s.core.nodes o o.stage
-  removal_goes o runs = removal_ready s o (reaches_kept settings rack entries s run) (all_hold_whole settings rack entries s run) runs
+  pub removal_goes : (o : Job) → s.operation ≡ Some o → course_of o.kind ≡ Course.Removing → HasNext s.core.nodes o o.stage × query.SettlesStripped s.core.nodes o o.stage
+  removal_goes o runs course = removal_ready s o course (reaches_kept settings rack entries s run) (all_hold_whole settings rack entries s run) runs
 
   -- likewise a surprise removal, where what depends on the device directly tells whether it stays behind
-  pub surprise_goes : (o : Surprise) → s.operation ≡ Some (Operation.Surprising o)
-      → surprise.HasNext s.core.nodes o o.stage × surprise.DirectSays s.core.nodes s.core.relations o o.stage × surprise.SettlesStripped s.core.nodes s.core.relations o s.handles o.stage
-  surprise_goes o runs = surprise_ready s o s.handles (reaches_kept settings rack entries s run) (all_hold_whole settings rack entries s run) runs
+  pub surprise_goes : (o : Job) → s.operation ≡ Some o → course_of o.kind ≡ Course.Surprising
+      → HasNext s.core.nodes o o.stage × surprise.DirectSays s.core.nodes s.core.relations o o.stage × surprise.SettlesStripped s.core.nodes s.core.relations o s.handles o.stage
+  surprise_goes o runs course = surprise_ready s o s.handles course (reaches_kept settings rack entries s run) (all_hold_whole settings rack entries s run) runs
 
   -- and the end of surprise removals
-  pub finish_goes : (f : Finish) → s.operation ≡ Some (Operation.Finishing f) → finish.HasCurrent s.core.nodes f f.stage × finish.LeavesStripped s.core.nodes f f.stage
-  finish_goes f runs = finish_ready s f (reaches_kept settings rack entries s run) (all_hold_whole settings rack entries s run) runs
+  pub finish_goes : (f : Job) → s.operation ≡ Some f → course_of f.kind ≡ Course.Finishing → finish.HasCurrent s.core.nodes f f.stage × finish.LeavesStripped s.core.nodes f f.stage
+  finish_goes f runs course = finish_ready s f course (reaches_kept settings rack entries s run) (all_hold_whole settings rack entries s run) runs
 
   -- the device of a start is there, and not the root
   pub start_there : (k : ℕ) (a : Activity) → activity_at k s.activities ≡ Some a → (n : Node) × (node_at k s.core.nodes ≡ Some n) × (k ≢ 0) × Fits a.phase n.state
@@ -167,5 +168,5 @@ module _ (settings : Settings) (rack : List Driver) (entries : List Entry) (s : 
   start_untold k a at = let (n, there, up, fits) = start_there k a at in ap was_told there ∙ idle_untold n.state (fits_idle a.phase n.state fits)
 
   -- while an operation runs, no device starts
-  pub alone : (o : Operation) → s.operation ≡ Some o → s.activities ≡ []
-  alone o runs = subst (λ (x : Option Operation). Alone x s.activities) runs (reaches_kept settings rack entries s run).good.alone
+  pub alone : (o : Job) → s.operation ≡ Some o → s.activities ≡ []
+  alone o runs = subst (λ (x : Option Job). Alone x s.activities) runs (reaches_kept settings rack entries s run).good.alone

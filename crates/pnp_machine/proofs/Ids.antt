@@ -78,7 +78,7 @@ few_nodes s label t (NodeEffect.changed j f alters a b) h =
     from_nodes t.core _ a (changed_have IsFewNode (is_node j) f (keeps_few f (alters_keeps s label t j f alters)) s.core.nodes h.0)
 few_nodes s label t (NodeEffect.stripped node w at request ends prints a b) h =
     from_nodes t.core _ a (changed_have IsFewNode (is_node node.serial) bare (λ n few. record { hw = few.hw; compat = few.compat }) s.core.nodes h.0)
-few_nodes s label t (NodeEffect.commits r runs is a b) h =
+few_nodes s label t (NodeEffect.commits r runs course is a b) h =
     from_nodes t.core _ a (mapped_have IsFewNode (committed r.wanted r.target (movers r) (plan_of r.found)) (λ n few. record { hw = few.hw; compat = few.compat }) s.core.nodes h.0)
 few_nodes s label t (NodeEffect.joins node d none at up there is) h =
     let few = found_has IsFewDevice (joins node.born s.core.nodes) s.world d h.1 there in

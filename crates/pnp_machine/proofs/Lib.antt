@@ -21,8 +21,8 @@ pub mod BeginSteps
 pub mod Dues
 pub mod ListSteps
 pub mod StartSteps
-pub mod RemoveSteps
-pub mod RebalanceSteps
+pub mod Settling
+pub mod JobSteps
 pub mod OperationSteps
 pub mod EventSteps
 pub mod CommandSteps

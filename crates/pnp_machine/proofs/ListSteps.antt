@@ -7,7 +7,7 @@ use Rattle.pnp_labels.specs.declared.states.DevState.TheVariants.{NoStack, NotSt
 use Rattle.pnp_model.specs.Cores.{node_at, serials_of}
 use Rattle.pnp_model.specs.Keyed.{those}
 use Rattle.pnp_model.specs.Trees.{children, is_child}
-use Rattle.pnp_model.specs.Records.{Node, Driver, Activity, Operation, State, Step, Task}
+use Rattle.pnp_model.specs.Records.{Node, Driver, Activity, Job, State, Step, Task}
 use Rattle.std.specs.declared.alloc.AllocError.{AllocError}
 use Rattle.pnp_labels.specs.declared.label.OpKind.{OpKind}
 use Rattle.pnp_model.specs.Records.Duty.{Listing, Begins}
@@ -71,7 +71,7 @@ module _ (s : State) (k : ℕ) (n : Node) (at : node_at k s.core.nodes ≡ Some 
       on_started (gone_or_listed s n (gone_child s n.serial)) label t (ap (join_or_on s n) none)
       (subst (λ x. IsDone x label t) (sym (by_gone (gone_child s n.serial) ∙ ap (λ i. gone_or_listed_at s i n.path) (own_serial k n s.core.nodes at))) h)
 
-module _ (ds ds' : Devices) (rack : List Driver) (disabled : List Text) (works : List Activity) (operation : Option Operation) (tasks tasks' : List Task) (k : ℕ) (n : Node)
+module _ (ds ds' : Devices) (rack : List Driver) (disabled : List Text) (works : List Activity) (operation : Option Job) (tasks tasks' : List Task) (k : ℕ) (n : Node)
     (at : node_at k ds.tree.nodes ≡ Some n) (up : n.state ≡ Started) where
   abbrev s : State
   s = state_of ds rack disabled works operation tasks

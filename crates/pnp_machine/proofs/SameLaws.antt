@@ -70,7 +70,7 @@ facts_same s r h =
 
 pub hopeless_same : (s : State) (r : List Driver) (path : Text) → IsHopelessBy (with_rack r s) path → IsHopelessBy s path
 hopeless_same s r path h =
-    record { frame = h.frame; runs = h.runs; plain = h.plain; node = h.node; there = h.there; named = h.named; movers = h.movers; free = h.free; none = h.none }
+    record { frame = h.frame; runs = h.runs; course = h.course; plain = h.plain; node = h.node; there = h.there; named = h.named; movers = h.movers; free = h.free; none = h.none }
 
 -- the request that is on its way
 pub walk_same : (s : State) (r : List Driver) (k : ℕ) (w : Walk) → IsWalkOf (with_rack r s) k w → IsWalkOf s k w

@@ -5,7 +5,7 @@ use Rattle.pnp_labels.specs.declared.states.DevState.{DevState}
 use Rattle.pnp_labels.specs.declared.states.DevState.TheVariants.{NoStack, NotStarted, Started, StopPending, Stopped, RemovePending, SurpriseRemoved}
 use Rattle.inf_reader.specs.declared.parts.Inf.{Inf}
 use Rattle.pnp_model.specs.Cores.{node_at}
-use Rattle.pnp_model.specs.Records.{Node, Driver, Activity, Operation, Settings, State, Step, Task}
+use Rattle.pnp_model.specs.Records.{Node, Driver, Activity, Job, Settings, State, Step, Task}
 use Rattle.pnp_model.specs.Records.Duty.{Starting}
 use Rattle.pnp_model.specs.States.{activity_at, entered}
 use Rattle.pnp_model.specs.Tasks.{skip, start_step, start_bare, start_idle, start_enabled}
@@ -90,7 +90,7 @@ abbrev pub works_begun : Option Activity → List Activity → List Activity
 works_begun None works = works
 works_begun (Some a) works = entered a works
 
-module _ (ds ds' : Devices) (rack : List Driver) (paths : List Text) (works works' : List Activity) (operation : Option Operation) (tasks tasks' : List Task)
+module _ (ds ds' : Devices) (rack : List Driver) (paths : List Text) (works works' : List Activity) (operation : Option Job) (tasks tasks' : List Task)
     (stays : ds' ≡ with_nodes ds ds'.tree.nodes) where
   abbrev s : State
   s = state_of ds rack paths works operation tasks

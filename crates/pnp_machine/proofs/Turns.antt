@@ -4,8 +4,8 @@ use Rattle.pnp_labels.specs.declared.label.Label.{Label}
 use Rattle.pnp_labels.specs.declared.label.OpKind.{OpKind}
 use Rattle.pnp_labels.specs.declared.words.Minor.{Minor}
 use Rattle.pnp_model.specs.Cores.{node_at}
-use Rattle.pnp_model.specs.Machine.{Steps, IsStep, IsQuiet, idle_next, task_next, activity_next, operation_next, operation_walk, is_waiting, begin_alone, next, next_of, is_ready}
-use Rattle.pnp_model.specs.Records.{Activity, Operation, State, Step, Settings, Doing, Walk}
+use Rattle.pnp_model.specs.Machine.{Steps, IsStep, IsQuiet, idle_next, task_next, activity_next, operation_next, is_waiting, begin_alone, next, next_of, is_ready}
+use Rattle.pnp_model.specs.Records.{Activity, Job, State, Step, Settings, Doing, Walk}
 use Rattle.pnp_model.specs.Records.Doing.{Does}
 use Rattle.pnp_model.specs.Tasks.{list_step, start_step, begin_step}
 use Rattle.pnp_laws.specs.Kept.{IsGood}
@@ -49,14 +49,14 @@ none_mapped (Some a) h = absurd (cc)
 module _ (settings : Settings) (s : State) where
   -- The operation -------------------------------------------------------------------
 
-  module _ (o : Operation) (runs : s.operation ≡ Some o) where
-    pub operate_next : is_waiting (operation_walk o) ≡ false → next settings s ≡ operation_next s o false
+  module _ (o : Job) (runs : s.operation ≡ Some o) where
+    pub operate_next : is_waiting o.walk ≡ false → next settings s ≡ operation_next s o false
     operate_next awake = ap (next_of settings s) runs ∙ ap (operation_next s o) awake
 
-    pub operate_waits : is_waiting (operation_walk o) ≡ true → IsQuiet settings s
+    pub operate_waits : is_waiting o.walk ≡ true → IsQuiet settings s
     operate_waits waits = ap (next_of settings s) runs ∙ ap (operation_next s o) waits
 
-    pub operate_moves : (label : Label) (t : State) → is_waiting (operation_walk o) ≡ false → IsDoing settings (operation_next s o false) label t → Steps settings s label t
+    pub operate_moves : (label : Label) (t : State) → is_waiting o.walk ≡ false → IsDoing settings (operation_next s o false) label t → Steps settings s label t
     operate_moves label t awake h = subst (λ (x : Option (Doing Step)). IsStep settings x (record { label = label; state = t })) (sym (operate_next awake)) h
 
   -- Without one -----------------------------------------------------------------------

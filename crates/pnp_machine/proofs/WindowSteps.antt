@@ -14,7 +14,7 @@ use Rattle.pnp_labels.specs.declared.label.Label.{Label}
 use Rattle.pnp_labels.specs.declared.label.Reason.{Reason}
 use Rattle.pnp_model.specs.Events.{did, happens, has_children, refused}
 use Rattle.pnp_model.proofs.Guards.{where_none, where_some}
-use Rattle.pnp_model.specs.Records.{Device, Node, Driver, Activity, Operation, State, Step, Task, Window}
+use Rattle.pnp_model.specs.Records.{Device, Node, Driver, Activity, Job, State, Step, Task, Window}
 use Rattle.pnp_model.specs.States.{add_window, device_of, has_below, node_born}
 use Rattle.pnp_model.specs.Trees.{is_child}
 use Rattle.pnp_model.specs.Windows.{is_window_on}
@@ -30,7 +30,7 @@ pub stays_refused : (ds : Devices) (res : Res) (o : Option Device) (reason : Rea
 stays_refused ds res None reason = refl
 stays_refused ds res (Some d) reason = refl
 
-module _ (ds : Devices) (rack : List Driver) (paths : List Text) (works : List Activity) (operation : Option Operation) (tasks : List Task) (res : Res) where
+module _ (ds : Devices) (rack : List Driver) (paths : List Text) (works : List Activity) (operation : Option Job) (tasks : List Task) (res : Res) where
   abbrev s : State
   s = state_of ds rack paths works operation tasks
 

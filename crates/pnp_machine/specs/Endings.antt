@@ -2,7 +2,7 @@
 use Rattle.std.specs.Prelude.{◌≡◌, ℕ, Bool, true, false, List, [], ◌∷◌, ◌++◌, Option, Some, codes, drop, map, length, slice_index}
 use Rattle.pnp_labels.specs.Texts.{Text}
 use Rattle.pnp_model.specs.Cores.{node_at, core_of}
-use Rattle.pnp_model.specs.Records.{Node, Driver, Handle, Walk, Activity, Operation, State}
+use Rattle.pnp_model.specs.Records.{Node, Driver, Handle, Walk, Activity, Job, State}
 use Rattle.pnp_model.specs.Endings.{joined, print_order, tree_line, map_line, map_rows, outstanding, outstanding_line, activity_rows, operation_rows, walk_row, handle_line, handles_part}
 use Rattle.pnp_model.specs.Books.{name_of}
 use Rattle.pnp_model.specs.Walks.{place_of}
@@ -30,7 +30,7 @@ request_lines nodes rack k walk = joined (map (outstanding_line (core_of nodes [
 abbrev pub works_lines : List Node → List Driver → List Activity → Text
 works_lines nodes rack works = joined (map (outstanding_line (core_of nodes [] rack [])) (activity_rows works))
 
-abbrev pub operation_lines : List Node → List Driver → Option Operation → Text
+abbrev pub operation_lines : List Node → List Driver → Option Job → Text
 operation_lines nodes rack operation = joined (map (outstanding_line (core_of nodes [] rack [])) (operation_rows operation))
 
 -- the lines of handles, without and with the word above them

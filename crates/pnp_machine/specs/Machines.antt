@@ -6,7 +6,7 @@ use Rattle.pnp_labels.specs.declared.event.Event.{Event}
 use Rattle.pnp_labels.specs.declared.label.Label.{Label}
 use Rattle.pnp_labels.specs.declared.label.RemoveStep.{RemoveStep}
 use Rattle.pnp_labels.specs.declared.label.RemoveStep.TheVariants as removes
-use Rattle.pnp_model.specs.Machine.{Steps, IsQuiet, IsStep, operation_walk, is_born, is_waiting}
+use Rattle.pnp_model.specs.Machine.{Steps, IsQuiet, IsStep, is_born, is_waiting}
 use Rattle.pnp_model.specs.Cores.{node_at}
 use Rattle.pnp_model.specs.Events.{completed, answer_of, completes_at, completion}
 use Rattle.pnp_model.specs.Tasks.{gone_child}
@@ -18,13 +18,13 @@ use Rattle.pnp_model.specs.States.{activity_at, append_task, set_operation, drop
 use Rattle.pnp_model.specs.Tests.{is_no_stack, is_not_started, has_same}
 use Rattle.pnp_model.specs.Frames.{first_node}
 use Rattle.pnp_model.specs.Trees.{is_up}
-use Rattle.pnp_model.specs.Records.{Device, Node, Driver, Activity, Doing, Settings, State, Step, Task, Operation, Removal}
+use Rattle.pnp_model.specs.Records.{Device, Node, Driver, Activity, Doing, Settings, State, Step, Task, Job}
 use Rattle.pnp_model.specs.Records as machines
 use Rattle.pnp_machine.specs.Devices.{Devices}
 use Rattle.pnp_machine.specs.Doings.{core_with}
 use Rattle.pnp_machine.specs.Operations.{operation_of}
 use Rattle.pnp_machine.specs.declared.operation.Operation as declared
-use Rattle.query_remove.specs.Frames.{is_settling}
+use Rattle.query_remove.specs.Parts.{is_settling}
 use Rattle.pnp_machine.specs.Starts.{first_ready}
 use Rattle.pnp_machine.specs.TaskLists.{duty_of}
 use Rattle.pnp_machine.specs.declared.manager.Moved.{Moved}
@@ -34,7 +34,7 @@ use Rattle.pnp_machine.specs.declared.tasks.Duty.TheVariants as duties
 use Rattle.pnp_machine.specs.declared.turn.Turn.{Turn}
 use Rattle.pnp_machine.specs.declared.turn.Turn.TheVariants as turns
 
-abbrev pub state_of : Devices → List Driver → List Text → List Activity → Option Operation → List Task → State
+abbrev pub state_of : Devices → List Driver → List Text → List Activity → Option Job → List Task → State
 state_of devices rack disabled works operation tasks =
     record {
       world = devices.world.devices;
@@ -76,7 +76,7 @@ MayDo _ works = Unit {0}
 
 abbrev pub IsTurn : Turn → State → Type 0
 IsTurn turns.Quiet s = (settings : Settings) → IsQuiet settings s
-IsTurn turns.Operate s = (o : Operation) × (s.operation ≡ Some o) × (is_waiting (operation_walk o) ≡ false)
+IsTurn turns.Operate s = (j : Job) × (s.operation ≡ Some j) × (is_waiting j.walk ≡ false)
 IsTurn (turns.Act k) s = (s.operation ≡ None) × (first_ready s.activities ≡ Some k)
 IsTurn (turns.Do duty k) s =
     (s.operation ≡ None) × (first_ready s.activities ≡ None) × (slice_get s.tasks 0 ≡ Some (record { kind = duty_of duty; serial = k }))
@@ -156,7 +156,7 @@ abbrev pub path_if : Bool → ℕ → Option Node → Option Text
 path_if true target (Some n) = path_where (n.serial == target) n.path
 path_if _ target first = None
 
-abbrev pub settled_path : Removal → List Node → Option Text
+abbrev pub settled_path : Job → List Node → Option Text
 settled_path o nodes = path_if (is_settling o.stage) o.target (first_node nodes o.todo)
 
 -- the tasks with one more that lists a node, if there is one
@@ -182,7 +182,7 @@ DoneFor None step label new = ⊥
 DoneFor (Some n) step label new = IsDone (step n) label new
 
 -- where its request waited for the answer it got it, else nothing changed
-abbrev pub CompletesOperation : Bool → Operation → Bool → Bool → Operation → Type 0
+abbrev pub CompletesOperation : Bool → Job → Bool → Bool → Job → Type 0
 CompletesOperation true old ok done new = (done ≡ true) × (new ≡ completed (answer_of ok) old)
 CompletesOperation false old ok done new = (done ≡ false) × (new ≡ old)
 

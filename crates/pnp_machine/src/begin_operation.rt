@@ -1,10 +1,10 @@
-ghost use Rattle.std.specs.Prelude.{◌≡◌, [], IfOk, OnErr, Some, IsSome};
+ghost use Rattle.std.specs.Prelude.{◌≡◌, [], IfOk, OnErr, Some, IsSome, true};
 ghost use Rattle.pnp_model.specs.Cores.{node_at};
 ghost use Rattle.pnp_model.specs.Rebalances.{begun_rebalance};
 ghost use Rattle.pnp_model.specs.Records.Duty.{Begins};
-ghost use Rattle.pnp_model.specs.Records as machines;
 ghost use Rattle.pnp_model.specs.Finishes.{begun_finish};
 ghost use Rattle.pnp_model.specs.Handles.{was_told};
+ghost use Rattle.pnp_model.specs.Machine.{is_in_order};
 ghost use Rattle.pnp_model.specs.Removals.{begun_removal};
 ghost use Rattle.pnp_model.specs.Surprises.{begun_surprise};
 ghost use Rattle.pnp_model.specs.Tasks.{begin, begin_step, change_task, skip};
@@ -91,7 +91,7 @@ impl<R: Drivers> Machine<R> {
     /// The rebalance for a device begins.
     fn begin_rebalance(&mut self, serial: u64) -> Result<Label, WantOfMemory>
         requires { IsSome (node_at serial self.old.core.nodes) }
-        ensures done { IfOk result (λ label. DoneFor (node_at serial self.old.core.nodes) (λ n. begin self.old OpKind.Rebalance n (machines.Operation.Rebalancing (begun_rebalance self.old.core n))) label self.new) }
+        ensures done { IfOk result (λ label. DoneFor (node_at serial self.old.core.nodes) (λ n. begin self.old OpKind.Rebalance n (begun_rebalance self.old.core n)) label self.new) }
         ensures err { OnErr result (self.new ≡ self.old) }
     {
         let (label, rebalance) = self.devices.begin_rebalance(self.alloc, serial)?;
@@ -100,8 +100,9 @@ impl<R: Drivers> Machine<R> {
 
     /// The removal of a device begins.
     fn begin_removal(&mut self, kind: OpKind, serial: u64) -> Result<Label, WantOfMemory>
-        requires { IsSome (node_at serial self.old.core.nodes) }
-        ensures done { IfOk result (λ label. DoneFor (node_at serial self.old.core.nodes) (λ n. begin self.old kind n (machines.Operation.Removing (begun_removal self.old.core kind n))) label self.new) }
+        requires there { IsSome (node_at serial self.old.core.nodes) }
+        requires order { is_in_order kind ≡ true }
+        ensures done { IfOk result (λ label. DoneFor (node_at serial self.old.core.nodes) (λ n. begin self.old kind n (begun_removal self.old.core kind n)) label self.new) }
         ensures err { OnErr result (self.new ≡ self.old) }
     {
         let (label, removal) = self.devices.begin_removal(self.alloc, kind, serial)?;
@@ -111,7 +112,7 @@ impl<R: Drivers> Machine<R> {
     /// The surprise removal of a device begins.
     fn begin_surprise(&mut self, serial: u64) -> Result<Label, WantOfMemory>
         requires { IsSome (node_at serial self.old.core.nodes) }
-        ensures done { IfOk result (λ label. DoneFor (node_at serial self.old.core.nodes) (λ n. begin self.old OpKind.Surprise n (machines.Operation.Surprising (begun_surprise self.old.core n))) label self.new) }
+        ensures done { IfOk result (λ label. DoneFor (node_at serial self.old.core.nodes) (λ n. begin self.old OpKind.Surprise n (begun_surprise self.old.core n)) label self.new) }
         ensures err { OnErr result (self.new ≡ self.old) }
     {
         let (label, surprise) = self.devices.begin_surprise(self.alloc, serial)?;
@@ -121,7 +122,7 @@ impl<R: Drivers> Machine<R> {
     /// The end of surprise removals begins with a device that is ready.
     fn begin_finish(&mut self, serial: u64) -> Result<Label, WantOfMemory>
         requires { IsSome (node_at serial self.old.core.nodes) }
-        ensures done { IfOk result (λ label. DoneFor (node_at serial self.old.core.nodes) (λ n. begin self.old OpKind.Finish n (machines.Operation.Finishing (begun_finish n))) label self.new) }
+        ensures done { IfOk result (λ label. DoneFor (node_at serial self.old.core.nodes) (λ n. begin self.old OpKind.Finish n (begun_finish n)) label self.new) }
         ensures err { OnErr result (self.new ≡ self.old) }
     {
         let (label, finish) = self.devices.begin_finish(self.alloc, serial)?;

@@ -1,21 +1,22 @@
-ghost use Rattle.std.specs.Prelude.{◌≡◌, ◌≤◌, ℕ, IfOk, IfSome, OnErr, IsSome, List, Some, None, false, length};
+ghost use Rattle.std.specs.Prelude.{◌≡◌, ◌≤◌, ℕ, IfOk, IfSome, OnErr, IsSome, List, [], Some, None, true, false, length};
 ghost use Rattle.devnode_tree.specs.Trees.{IsTree};
 ghost use Rattle.pnp_model.specs.Cores.{node_at};
 ghost use Rattle.pnp_model.specs.Frames.{first_node};
 ghost use Rattle.pnp_model.specs.Handles.{was_told};
-ghost use Rattle.pnp_model.specs.Machine.{phase_walk, rebalance_walk, removal_walk, surprise_walk, finish_walk, is_waiting, is_born};
-ghost use Rattle.pnp_model.specs.Records.{Driver, State};
+ghost use Rattle.pnp_model.specs.Machine.{phase_walk, is_in_order, is_waiting, is_born};
+ghost use Rattle.pnp_model.specs.Finishes.{begun_finish};
+ghost use Rattle.pnp_model.specs.Records.{Course, Driver, State, course_of};
+ghost use Rattle.pnp_model.specs.Removals.{begun_removal};
+ghost use Rattle.pnp_model.specs.Surprises.{begun_surprise};
 ghost use Rattle.start_sequence.specs.Begins.{settings_of, BegunFor, HasFewIds};
 ghost use Rattle.rebalance.specs.Begins as rebalanced;
 ghost use Rattle.rebalance.specs.Steps as rebalances;
-ghost use Rattle.query_remove.specs.Begins as removals;
-ghost use Rattle.query_remove.specs.Steps as removes;
-ghost use Rattle.surprise_remove.specs.Begins as surprised;
+ghost use Rattle.operation_frame.specs.Steps.{BegunFor as JobBegun, HasNext};
+ghost use Rattle.query_remove.specs.Parts as removes;
 ghost use Rattle.surprise_remove.specs.Steps as surprises;
-ghost use Rattle.surprise_remove.specs.FinishFrames as finished;
 ghost use Rattle.surprise_remove.specs.FinishSteps as finishes;
 ghost use Rattle.surprise_remove.specs.Ready.{is_ready_at};
-ghost use Rattle.pnp_machine.specs.Doings.{Acts, Rebalances, Removes, Surprises, Finishes, core_with};
+ghost use Rattle.pnp_machine.specs.Doings.{Acts, Rebalances, Removes, core_with};
 
 use crate::devices::Devices;
 use device_ids::WantOfMemory;
@@ -105,9 +106,10 @@ impl Devices {
         rack: &mut R,
         budget: u64,
     ) -> Result<RebalanceStep, WantOfMemory>
-        requires there { rebalances.HasNext self.old.tree.nodes rebalance.old rebalance.old.stage }
-        requires goes { is_waiting (rebalance_walk rebalance.old.stage) ≡ false }
+        requires there { rebalances.HasNext (first_node self.old.tree.nodes rebalance.old.todo) rebalance.old.walk rebalance.old.stage }
+        requires goes { is_waiting rebalance.old.walk ≡ false }
         requires budget { budget ≤ 1000000 }
+        ensures course { course_of rebalance.old.kind ≡ Course.Rebalancing }
         ensures rebalances { IfOk result (λ step. Rebalances budget self.old (R.rows rack.old) rebalance.old step self.new (R.rows rack.new) rebalance.new) }
         ensures rebalance { OnErr result (rebalance.new ≡ rebalance.old) }
         ensures rack { OnErr result (R.rows rack.new ≡ R.rows rack.old) }
@@ -124,8 +126,9 @@ impl Devices {
         kind: OpKind,
         serial: u64,
     ) -> Result<(Label, Removal), WantOfMemory>
-        requires { IsSome (node_at serial self.now.tree.nodes) }
-        ensures { IfOk result (λ begun. removals.BegunFor (node_at serial self.now.tree.nodes) self.now.tree.nodes self.now.relations kind begun.0 begun.1) }
+        requires there { IsSome (node_at serial self.now.tree.nodes) }
+        requires order { is_in_order kind ≡ true }
+        ensures { IfOk result (λ begun. JobBegun kind (λ c n. begun_removal c kind n) (node_at serial self.now.tree.nodes) self.now.tree.nodes self.now.relations begun.0 begun.1) }
     {
         Removal::begin(alloc, &self.tree, &self.relations, kind, serial)
     }
@@ -137,7 +140,7 @@ impl Devices {
         serial: u64,
     ) -> Result<(Label, Surprise), WantOfMemory>
         requires { IsSome (node_at serial self.now.tree.nodes) }
-        ensures { IfOk result (λ begun. surprised.BegunFor (node_at serial self.now.tree.nodes) self.now.tree.nodes self.now.relations begun.0 begun.1) }
+        ensures { IfOk result (λ begun. JobBegun OpKind.Surprise begun_surprise (node_at serial self.now.tree.nodes) self.now.tree.nodes self.now.relations begun.0 begun.1) }
     {
         Surprise::begin(alloc, &self.tree, &self.relations, serial)
     }
@@ -149,10 +152,10 @@ impl Devices {
         removal: &mut Removal,
         rack: &mut R,
     ) -> Result<RemoveStep, WantOfMemory>
-        requires there { removes.HasNext self.old.tree.nodes removal.old removal.old.stage }
+        requires there { HasNext self.old.tree.nodes removal.old removal.old.stage }
         requires settles { removes.SettlesStripped self.old.tree.nodes removal.old removal.old.stage }
-        requires goes { is_waiting (removal_walk removal.old.stage) ≡ false }
-        ensures removes { IfOk result (λ step. Removes self.old (R.rows rack.old) removal.old step self.new (R.rows rack.new) removal.new) }
+        requires goes { is_waiting removal.old.walk ≡ false }
+        ensures removes { IfOk result (λ step. Removes Course.Removing self.old (R.rows rack.old) false removal.old step self.new (R.rows rack.new) removal.new) }
         ensures removal { OnErr result (removal.new ≡ removal.old) }
         ensures rack { OnErr result (R.rows rack.new ≡ R.rows rack.old) }
         ensures err { OnErr result (self.new ≡ self.old) }
@@ -180,23 +183,31 @@ impl Devices {
         }
     }
 
+    /// Whether the device that a surprise removal is for is in the world.
+    pub(crate) fn is_target_in_world(&self, surprise: &Surprise) -> bool
+        ensures course { course_of surprise.now.kind ≡ Course.Surprising }
+        ensures born { result ≡ is_born self.now.world.devices (node_at surprise.now.target self.now.tree.nodes) }
+    {
+        self.is_in_world(surprise.target())
+    }
+
     /// The next step of a surprise removal, as `Surprise::next` says.
     pub(crate) fn surprise<R: Drivers>(
         &mut self,
         alloc: Global,
         surprise: &mut Surprise,
         rack: &mut R,
+        in_world: bool,
     ) -> Result<RemoveStep, WantOfMemory>
-        requires there { surprises.HasNext self.old.tree.nodes surprise.old surprise.old.stage }
+        requires there { HasNext self.old.tree.nodes surprise.old surprise.old.stage }
         requires direct { surprises.DirectSays self.old.tree.nodes self.old.relations surprise.old surprise.old.stage }
         requires settles { surprises.SettlesStripped self.old.tree.nodes self.old.relations surprise.old self.old.handles surprise.old.stage }
-        requires goes { is_waiting (surprise_walk surprise.old.stage) ≡ false }
-        ensures surprises { IfOk result (λ step. Surprises self.old (R.rows rack.old) surprise.old (is_born self.old.world.devices (node_at surprise.old.target self.old.tree.nodes)) step self.new (R.rows rack.new) surprise.new) }
+        requires goes { is_waiting surprise.old.walk ≡ false }
+        ensures removes { IfOk result (λ step. Removes Course.Surprising self.old (R.rows rack.old) in_world surprise.old step self.new (R.rows rack.new) surprise.new) }
         ensures surprise { OnErr result (surprise.new ≡ surprise.old) }
         ensures rack { OnErr result (R.rows rack.new ≡ R.rows rack.old) }
         ensures err { OnErr result (self.new ≡ self.old) }
     {
-        let in_world = self.is_in_world(surprise.target());
         self.from = 0;
         self.whole = None;
         surprise.next(
@@ -224,14 +235,15 @@ impl Devices {
         serial: u64,
     ) -> Result<(Label, Finish), WantOfMemory>
         requires { IsSome (node_at serial self.now.tree.nodes) }
-        ensures { IfOk result (λ begun. finished.BegunFor (node_at serial self.now.tree.nodes) begun.0 begun.1) }
+        ensures { IfOk result (λ begun. JobBegun OpKind.Finish (λ c n. begun_finish n) (node_at serial self.now.tree.nodes) self.now.tree.nodes [] begun.0 begun.1) }
     {
         Finish::begin(alloc, &self.tree, serial)
     }
 
     /// Whether the device that is being finished, if one is, is in the world.
-    fn is_current_in_world(&self, finish: &Finish) -> bool
-        ensures { result ≡ is_born self.now.world.devices (first_node self.now.tree.nodes finish.now.todo) }
+    pub(crate) fn is_current_in_world(&self, finish: &Finish) -> bool
+        ensures course { course_of finish.now.kind ≡ Course.Finishing }
+        ensures born { result ≡ is_born self.now.world.devices (first_node self.now.tree.nodes finish.now.todo) }
     {
         match finish.current() {
             Some(serial) => self.is_in_world(serial),
@@ -245,16 +257,16 @@ impl Devices {
         alloc: Global,
         finish: &mut Finish,
         rack: &mut R,
+        in_world: bool,
     ) -> Result<RemoveStep, WantOfMemory>
         requires there { finishes.HasCurrent self.old.tree.nodes finish.old finish.old.stage }
         requires leaves { finishes.LeavesStripped self.old.tree.nodes finish.old finish.old.stage }
-        requires goes { is_waiting (finish_walk finish.old.stage) ≡ false }
-        ensures finishes { IfOk result (λ step. Finishes self.old (R.rows rack.old) finish.old (is_born self.old.world.devices (first_node self.old.tree.nodes finish.old.todo)) step self.new (R.rows rack.new) finish.new) }
+        requires goes { is_waiting finish.old.walk ≡ false }
+        ensures removes { IfOk result (λ step. Removes Course.Finishing self.old (R.rows rack.old) in_world finish.old step self.new (R.rows rack.new) finish.new) }
         ensures finish { OnErr result (finish.new ≡ finish.old) }
         ensures rack { OnErr result (R.rows rack.new ≡ R.rows rack.old) }
         ensures err { OnErr result (self.new ≡ self.old) }
     {
-        let in_world = self.is_current_in_world(finish);
         self.from = 0;
         self.whole = None;
         finish.next(

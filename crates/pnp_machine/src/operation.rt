@@ -1,6 +1,7 @@
-ghost use Rattle.std.specs.Prelude.{◌≡◌, true, IfOk, option_map};
-ghost use Rattle.pnp_model.specs.Events.{operation_at, operation_waits, completed, answer_of};
-ghost use Rattle.pnp_model.specs.Machine.{operation_walk, is_waiting};
+ghost use Rattle.std.specs.Prelude.{◌≡◌, true, IfOk, option_map, slice_get};
+ghost use Rattle.pnp_model.specs.Events.{operation_waits, completed, answer_of};
+ghost use Rattle.pnp_model.specs.Machine.{is_waiting};
+ghost use Rattle.pnp_model.specs.Records.{Course, course_of};
 ghost use Rattle.device_stack.specs.Waiting.{minor_of};
 ghost use Rattle.pnp_machine.specs.Operations.{operation_of};
 ghost use Rattle.pnp_machine.specs.Machines.{settled_path, CompletesOperation};
@@ -43,7 +44,8 @@ pub(crate) fn settled_path(
     devices: &Devices,
     removal: &Removal,
 ) -> Result<Option<InstancePath>, WantOfMemory>
-    ensures { IfOk result (λ path. path ≡ settled_path removal.now devices.now.tree.nodes) }
+    ensures course { course_of removal.now.kind ≡ Course.Removing }
+    ensures path { IfOk result (λ path. path ≡ settled_path removal.now devices.now.tree.nodes) }
 {
     if !removal.settles() {
         return Ok(None);
@@ -60,7 +62,7 @@ pub(crate) fn settled_path(
 impl Operation {
     /// The device of the request that is on its way, or of the step that is next.
     pub(crate) fn device(&self) -> Option<u64>
-        ensures { result ≡ operation_at (operation_of self.now) }
+        ensures { result ≡ slice_get (operation_of self.now).todo 0 }
     {
         match self {
             Operation::Rebalancing(rebalance) => rebalance.first(),
@@ -72,7 +74,7 @@ impl Operation {
 
     /// The request that is on its way through a device's drivers; none exactly where none is.
     pub(crate) fn walk(&self) -> Option<&Walk>
-        ensures { option_map (λ w. w.now.walk) result ≡ operation_walk (operation_of self.now) }
+        ensures { option_map (λ w. w.now.walk) result ≡ (operation_of self.now).walk }
     {
         match self {
             Operation::Rebalancing(rebalance) => rebalance.walk(),
@@ -84,7 +86,7 @@ impl Operation {
 
     /// The request that waits for a driver; none exactly where none waits.
     pub(crate) fn waits(&self) -> Option<Minor>
-        ensures { result ≡ minor_of (operation_walk (operation_of self.now)) }
+        ensures { result ≡ minor_of (operation_of self.now).walk }
     {
         match self {
             Operation::Rebalancing(rebalance) => rebalance.waits(),
@@ -103,7 +105,7 @@ impl Operation {
 
     /// The driver at which the request waits completes it.
     fn answer(&mut self, ok: bool) -> Result<(), NoSuchRequest>
-        ensures { is_waiting (operation_walk (operation_of self.old)) ≡ true → operation_of self.new ≡ completed (answer_of ok) (operation_of self.old) }
+        ensures { is_waiting (operation_of self.old).walk ≡ true → operation_of self.new ≡ completed (answer_of ok) (operation_of self.old) }
     {
         match self {
             Operation::Rebalancing(rebalance) => rebalance.complete(ok),

@@ -1,13 +1,15 @@
 ghost use Rattle.std.specs.Prelude.{◌≡◌, ◌<◌, ◌≤◌, IfOk, OnErr, List, None, option_map};
 ghost use Rattle.inf_reader.specs.declared.parts.Inf.{Inf};
+ghost use Rattle.pnp_labels.specs.Texts.{Text};
 ghost use Rattle.pnp_model.specs.Machine.{Steps};
 ghost use Rattle.pnp_model.specs.Records.{Activity, Driver};
 ghost use Rattle.pnp_model.specs.States.{activity_at};
 ghost use Rattle.start_sequence.specs.Begins.{settings_of};
+ghost use Rattle.pnp_machine.specs.Devices as parts;
 ghost use Rattle.pnp_machine.specs.Machines.{IsTurn, state_of, beside, beside_made, label_of, IsLabelOf, IsNoRoot, IsNew, tasks_over};
 ghost use Rattle.pnp_machine.specs.Managers.{IsOfRun};
 ghost use Rattle.pnp_machine.specs.Operations.{operation_of};
-ghost use Rattle.pnp_machine.specs.Rebalanced.{rebalance_label, operation_after, works_after, tasks_after};
+ghost use Rattle.pnp_machine.specs.Rebalanced.{rebalance_label, beside_rebalance};
 ghost use Rattle.pnp_machine.specs.declared.turn.Turn.TheVariants as turns;
 
 use crate::devices::Devices;
@@ -120,9 +122,7 @@ fn apply_rebalance(
     requires tasks { 0 < tasks.old.room }
     requires new { activity_at target starts.old.works ≡ None }
     ensures label { result ≡ rebalance_label step }
-    ensures operation { option_map operation_of operation.new ≡ operation_after step (option_map operation_of operation.old) }
-    ensures works { starts.new.works ≡ works_after step target starts.old.works }
-    ensures tasks { tasks.new.tasks ≡ tasks_after step tasks.old.tasks }
+    ensures state { (devices : parts.Devices) (rack : List Driver) (disabled : List Text) → state_of devices rack disabled starts.new.works (option_map operation_of operation.new) tasks.new.tasks ≡ beside_rebalance step target (state_of devices rack disabled starts.old.works (option_map operation_of operation.old) tasks.old.tasks) }
 {
     match step {
         RebalanceStep::Did(label) => label,
@@ -140,7 +140,7 @@ fn apply_rebalance(
             starts.put(StartWork::undo(target));
             label
         }
-        RebalanceStep::OverDropped(label) | RebalanceStep::OverChange(label) => {
+        RebalanceStep::Over(label) => {
             set_operation(operation, None);
             label
         }
@@ -180,11 +180,13 @@ impl<R: Drivers> Machine<R> {
                 after_step(devices, disabled, operation, tasks, moved, settled)
             }
             Some(Operation::Surprising(surprise)) => {
-                let moved = devices.surprise(*alloc, surprise, rack);
+                let in_world = devices.is_target_in_world(surprise);
+                let moved = devices.surprise(*alloc, surprise, rack, in_world);
                 after_step(devices, disabled, operation, tasks, moved, None)
             }
             Some(Operation::Finishing(finish)) => {
-                let moved = devices.finish(*alloc, finish, rack);
+                let in_world = devices.is_current_in_world(finish);
+                let moved = devices.finish(*alloc, finish, rack, in_world);
                 after_step(devices, disabled, operation, tasks, moved, None)
             }
             None => unreachable!(),

@@ -1,7 +1,7 @@
 -- What is due is begun next.
 use Rattle.std.proofs.Common.{ℕ, ◌≡◌, Bool, true, false, List, [], ◌∷◌, Option, Some, None, refl, ap, ◌∙◌, subst}
 use Rattle.std.specs.List.{find, slice_get}
-use Rattle.pnp_model.specs.Records.{State, Settings, Activity, Task, Duty, Operation, Beginning}
+use Rattle.pnp_model.specs.Records.{State, Settings, Activity, Task, Duty, Job, Beginning}
 use Rattle.pnp_model.specs.Records.Doing.{Does}
 use Rattle.pnp_model.specs.Cores.{node_at}
 use Rattle.pnp_model.specs.Tasks.{begin_step}
@@ -36,7 +36,7 @@ first_task : (s : State) (o : Option Task) (first : Beginning) → s.operation �
 first_task s None first idle task h = absurd (cc)
 first_task s (Some t) first idle task h = first_duty s t.kind t.serial first idle task h
 
-first_with : (s : State) (o : Option Operation) (first : Beginning) → s.operation ≡ o → ma.due_with s o ≡ Some first → IsFirst s first
+first_with : (s : State) (o : Option Job) (first : Beginning) → s.operation ≡ o → ma.due_with s o ≡ Some first → IsFirst s first
 first_with s (Some o) first idle h = absurd (cc)
 first_with s None first idle h = first_task s (slice_get s.tasks 0) first idle refl h
 
@@ -45,7 +45,7 @@ due_is_first s first h = first_with s s.operation first refl h
 
 pub first_begins : (settings : Settings) (s : State) (first : Beginning) → IsFirst s first → ma.next settings s ≡ Some (Does (begin_step s first.kind first.serial (node_at first.serial s.core.nodes)))
 first_begins settings s first h =
-    ap (λ (o : Option Operation). ma.next_of settings s o) h.idle
+    ap (λ (o : Option Job). ma.next_of settings s o) h.idle
     ∙ ap (λ (acts : List Activity). ma.idle_next settings s (find ma.is_ready acts)) h.calm
     ∙ ap (λ (t : Option Task). ma.task_next settings s t) h.task
     ∙ ap (λ (acts : List Activity). ma.begin_alone s first.kind first.serial acts) h.calm

@@ -1,6 +1,6 @@
 -- What an event does to a quiet machine: a label, and the state after it. Each event is one definition: its refusals from the
 -- top, in the order in which they are tested, and below them what is done.
-use Rattle.std.specs.Prelude.{ℕ, ◌==◌, Bool, true, false, not, ◌&&◌, ◌||◌, List, [], ◌∷◌, ◌++◌, Option, Some, None, is_some, is_none, nat_lt, nat_le, find, length, if◌then◌else◌}
+use Rattle.std.specs.Prelude.{ℕ, ◌==◌, Bool, true, false, not, ◌&&◌, ◌||◌, List, [], ◌∷◌, ◌++◌, Option, Some, None, is_some, is_none, nat_lt, nat_le, find, length, slice_get, option_map, if◌then◌else◌}
 use Rattle.std.specs.List.{list_any}
 use Rattle.resource_reqs.specs.Resources.{Res, Reqs, clashes}
 use Rattle.pnp_model.specs.Keyed.{changed_first}
@@ -14,9 +14,9 @@ use Rattle.pnp_model.specs.Windows.{is_window_on}
 use Rattle.pnp_model.specs.Handles.{is_handle_of, opened, closed_with}
 use Rattle.pnp_model.specs.Frames.{held_by}
 use Rattle.pnp_model.specs.States.{with_core, append_task, list_node, node_born, node_of, device_of, has_below, add_window, is_in_world, change_device, plug, unplug, enable_path, activity_at, set_phase, set_operation}
-use Rattle.pnp_model.specs.Machine.{phase_walk, operation_walk}
+use Rattle.pnp_model.specs.Machine.{phase_walk}
 use Rattle.pnp_labels.specs.Texts.{Text}
-use Rattle.pnp_model.specs.Records.{Node, Core, Walk, Device, Driver, Relation, Phase, State, Step, Operation, RebalanceStage, RemovalStage, SurpriseStage, FinishStage, Handle, Duty}
+use Rattle.pnp_model.specs.Records.{Node, Core, Walk, Device, Driver, Relation, Phase, State, Step, Job, Handle, Duty}
 use Rattle.pnp_model.specs.Records.Phase.{Starting, Removing}
 use Rattle.pnp_labels.specs.declared.words.Minor.{Minor}
 use Rattle.pnp_labels.specs.declared.words.Answer.{Answer}
@@ -192,54 +192,15 @@ abbrev pub answer_of : Bool → Answer
 answer_of true = Answer.Ok
 answer_of false = Answer.Fail
 
--- a phase or a stage whose walk got its answer
-
+-- a phase whose walk got its answer
 abbrev pub completed_phase : Answer → Phase → Phase
 completed_phase answer (Starting w) = Starting (after w answer)
 completed_phase answer (Removing w) = Removing (after w answer)
 completed_phase answer phase = phase
 
-abbrev pub completed_rebalance : Answer → RebalanceStage → RebalanceStage
-completed_rebalance answer (RebalanceStage.Asking w) = RebalanceStage.Asking (after w answer)
-completed_rebalance answer (RebalanceStage.TakingBack w) = RebalanceStage.TakingBack (after w answer)
-completed_rebalance answer (RebalanceStage.Cancelling w) = RebalanceStage.Cancelling (after w answer)
-completed_rebalance answer (RebalanceStage.Stopping w) = RebalanceStage.Stopping (after w answer)
-completed_rebalance answer (RebalanceStage.Restarting w) = RebalanceStage.Restarting (after w answer)
-completed_rebalance answer stage = stage
-
-abbrev pub completed_removal : Answer → RemovalStage → RemovalStage
-completed_removal answer (RemovalStage.Asking w) = RemovalStage.Asking (after w answer)
-completed_removal answer (RemovalStage.TakingBack w) = RemovalStage.TakingBack (after w answer)
-completed_removal answer (RemovalStage.Cancelling w) = RemovalStage.Cancelling (after w answer)
-completed_removal answer (RemovalStage.Removing w) = RemovalStage.Removing (after w answer)
-completed_removal answer stage = stage
-
-abbrev pub completed_surprise : Answer → SurpriseStage → SurpriseStage
-completed_surprise answer (SurpriseStage.Telling w) = SurpriseStage.Telling (after w answer)
-completed_surprise answer (SurpriseStage.Removing w) = SurpriseStage.Removing (after w answer)
-completed_surprise answer stage = stage
-
-abbrev pub completed_finish : Answer → FinishStage → FinishStage
-completed_finish answer (FinishStage.Removing w) = FinishStage.Removing (after w answer)
-completed_finish answer stage = stage
-
-abbrev pub completed : Answer → Operation → Operation
-completed answer (Operation.Rebalancing r) =
-    Operation.Rebalancing (record r { stage = completed_rebalance answer r.stage })
-completed answer (Operation.Removing o) = Operation.Removing (record o { stage = completed_removal answer o.stage })
-completed answer (Operation.Surprising o) = Operation.Surprising (record o { stage = completed_surprise answer o.stage })
-completed answer (Operation.Finishing f) = Operation.Finishing (record f { stage = completed_finish answer f.stage })
-
--- the device of the operation's walk
-abbrev pub front : List ℕ → Option ℕ
-front [] = None
-front (k ∷ ks) = Some k
-
-abbrev pub operation_at : Operation → Option ℕ
-operation_at (Operation.Rebalancing r) = front r.todo
-operation_at (Operation.Removing o) = front o.todo
-operation_at (Operation.Surprising o) = front o.todo
-operation_at (Operation.Finishing f) = front f.todo
+-- and an operation
+abbrev pub completed : Answer → Job → Job
+completed answer j = record j { walk = option_map (λ w. after w answer) j.walk }
 
 abbrev pub is_number : ℕ → Option ℕ → Bool
 is_number k None = false
@@ -249,8 +210,9 @@ abbrev pub waits_for : Minor → Option Walk → Bool
 waits_for minor None = false
 waits_for minor (Some w) = w.waits && same_minor w.minor minor
 
-abbrev pub operation_waits : Minor → ℕ → Operation → Bool
-operation_waits minor k o = is_number k (operation_at o) && waits_for minor (operation_walk o)
+-- the device of the operation's walk stands first
+abbrev pub operation_waits : Minor → ℕ → Job → Bool
+operation_waits minor k j = is_number k (slice_get j.todo 0) && waits_for minor j.walk
 
 abbrev pub completion : Node → Minor → Bool → Deed
 completion node minor ok = Deed.Completed node.path minor (shown_of minor (answer_of ok))
@@ -265,9 +227,9 @@ completes_start s node minor ok =
 -- at a node: the operation, or else a start
 abbrev pub completes_at : State → Node → Minor → Bool → Step
 completes_at s node minor ok =
-    unless s.operation (completes_start s node minor ok) (λ o.
-    if not (operation_waits minor node.serial o) then completes_start s node minor ok
-    else did (completion node minor ok) (set_operation (Some (completed (answer_of ok) o)) s))
+    unless s.operation (completes_start s node minor ok) (λ j.
+    if not (operation_waits minor node.serial j) then completes_start s node minor ok
+    else did (completion node minor ok) (set_operation (Some (completed (answer_of ok) j)) s))
 
 abbrev pub completes : State → Text → Minor → Bool → Step
 completes s path minor ok =

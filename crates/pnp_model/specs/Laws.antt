@@ -6,6 +6,7 @@ use Rattle.pnp_labels.specs.Texts.{Text}
 use Rattle.pnp_labels.specs.declared.states.DevState.{DevState}
 use Rattle.pnp_labels.specs.declared.states.DevState.TheVariants.{NoStack, Started, StopPending, Stopped, RemovePending}
 use Rattle.pnp_labels.specs.declared.states.Problem.{Problem}
+use Rattle.pnp_labels.specs.declared.words.Minor.{Minor}
 use Rattle.pnp_labels.specs.declared.label.OpKind.{OpKind}
 use Rattle.pnp_labels.specs.declared.label.OpEnd.TheVariants as OpEnd
 use Rattle.pnp_labels.specs.declared.label.Label.{Label}
@@ -16,7 +17,7 @@ use Rattle.pnp_model.specs.Trees.{above, children, dependents}
 use Rattle.pnp_model.specs.Walks.{is_bad}
 use Rattle.pnp_model.specs.Frames.{fixed_beside, first_node}
 use Rattle.pnp_model.specs.Rebalances.{reqs_of}
-use Rattle.pnp_model.specs.Records.{Node, Core, Driver, Walk, Operation, Rebalance, RebalanceStage, State, Settings}
+use Rattle.pnp_model.specs.Records.{Node, Core, Driver, Walk, Job, State, Settings}
 use Rattle.pnp_model.specs.Runs.{Entry, Goes, Run, printed, opening}
 use Rattle.pnp_model.specs.Runs.Entry.{Did}
 use Rattle.pnp_model.specs.Diagram.{FollowsDiagram, Walked}
@@ -83,8 +84,8 @@ pub record RestoresBut (path : Text) (before after : Core) : Type 0 where
 -- in this state the request to stop the device has just been refused
 abbrev pub Refuses : State → ℕ → Type 0
 Refuses s k =
-    (r : Rebalance) × (w : Walk) × (node : Node) × (s.operation ≡ Some (Operation.Rebalancing r)) × (r.stage ≡ RebalanceStage.Asking w)
-    × (first_node s.core.nodes r.todo ≡ Some node) × (node.serial ≡ k) × (is_bad w ≡ true)
+    (j : Job) × (w : Walk) × (node : Node) × (s.operation ≡ Some j) × (j.walk ≡ Some w) × (w.minor ≡ Minor.QueryStop)
+    × (first_node s.core.nodes j.todo ≡ Some node) × (node.serial ≡ k) × (is_bad w ≡ true)
 
 -- since a state the device has refused to be stopped
 abbrev pub RefusedSince : Settings → State → List Entry → State → ℕ → Type 0

@@ -10,6 +10,7 @@ pub mod Clips
 pub mod Handles
 pub mod Frames
 pub mod Starts
+pub mod Jobs
 pub mod Rebalances
 pub mod Removals
 pub mod Surprises

@@ -3,15 +3,16 @@ use Rattle.std.specs.Prelude.{ℕ, ◌≡◌, Bool, true, false, not, List, [], 
 use Rattle.resource_reqs.specs.Spelling.{IsAnswer}
 use Rattle.pnp_model.specs.Cores.{node_at, path_of}
 use Rattle.pnp_model.specs.States.{with_core, append_task, put_task_first, drop_task, set_phase, begin_activity, end_activity, set_operation, unplug, relist, disable_path, is_in_world}
-use Rattle.pnp_model.specs.Walks.{walk_of}
+use Rattle.pnp_model.specs.Walks.{walk_of, is_bad}
 use Rattle.pnp_model.specs.Starts.{StartMove, StartBeside, act}
-use Rattle.pnp_model.specs.Rebalances.{RebalanceMove, RebalanceBeside, rebalanced}
-use Rattle.pnp_model.specs.Removals.{RemoveBeside, RemovalMove, removed}
-use Rattle.pnp_model.specs.Surprises.{SurpriseMove, surprised}
-use Rattle.pnp_model.specs.Finishes.{FinishMove, finished}
+use Rattle.pnp_model.specs.Jobs.{JobMove, Beside, walks}
+use Rattle.pnp_model.specs.Rebalances as rebalances
+use Rattle.pnp_model.specs.Removals as removals
+use Rattle.pnp_model.specs.Surprises as surprises
+use Rattle.pnp_model.specs.Finishes as finishes
 use Rattle.pnp_model.specs.Frames.{first_node}
 use Rattle.pnp_model.specs.Tasks.{list_step, start_step, begin_step}
-use Rattle.pnp_model.specs.Records.{Node, Walk, Device, Activity, Phase, Task, State, Step, Settings, Found, Doing, doing_map, Operation, Rebalance, RebalanceStage, RemovalStage, Surprise, SurpriseStage, Finish, FinishStage, Duty, Beginning}
+use Rattle.pnp_model.specs.Records.{Node, Core, Walk, Device, Handle, Activity, Phase, Task, State, Step, Settings, Found, Doing, doing_map, Job, Course, course_of, Duty, Beginning}
 use Rattle.pnp_model.specs.Records.Doing.{Does, Searches}
 use Rattle.pnp_model.specs.Records.Phase.{Adding, Searching, Starting, Removing, Due}
 use Rattle.pnp_labels.specs.declared.words.Minor.{Minor}
@@ -31,38 +32,19 @@ after_start k phase StartBeside.Over s = end_activity k s
 abbrev pub start_lifted : State → ℕ → StartMove → Step
 start_lifted s k m = record { label = m.label; state = after_start k m.frame m.beside (with_core m.core s) }
 
-abbrev pub after_rebalance : Rebalance → RebalanceBeside → State → State
-after_rebalance r RebalanceBeside.On s = set_operation (Some (Operation.Rebalancing r)) s
-after_rebalance r (RebalanceBeside.FailedRestart k) s =
-    put_task_first (Duty.Begins OpKind.Surprise) k (set_operation (Some (Operation.Rebalancing r)) s)
-after_rebalance r RebalanceBeside.OverStart s =
-    begin_activity r.target (Starting (walk_of Minor.Start)) (set_operation None s)
-after_rebalance r RebalanceBeside.OverUndo s =
-    begin_activity r.target (Removing (walk_of Minor.Remove)) (set_operation None s)
-after_rebalance r RebalanceBeside.OverDropped s = set_operation None s
-after_rebalance r RebalanceBeside.OverChange s = set_operation None s
+-- and beside a step of an operation
+abbrev pub after_job : Job → Beside → State → State
+after_job j Beside.On s = set_operation (Some j) s
+after_job j (Beside.Left path born) s = relist path born (set_operation (Some j) s)
+after_job j (Beside.Disabled path) s = disable_path path (set_operation (Some j) s)
+after_job j (Beside.Ejected path born) s = relist path born (unplug born (set_operation (Some j) s))
+after_job j (Beside.FailedRestart k) s = put_task_first (Duty.Begins OpKind.Surprise) k (set_operation (Some j) s)
+after_job j Beside.Over s = set_operation None s
+after_job j Beside.OverStart s = begin_activity j.target (Starting (walk_of Minor.Start)) (set_operation None s)
+after_job j Beside.OverUndo s = begin_activity j.target (Removing (walk_of Minor.Remove)) (set_operation None s)
 
-abbrev pub rebalance_lifted : State → RebalanceMove → Step
-rebalance_lifted s m = record { label = m.label; state = after_rebalance m.frame m.beside (with_core m.core s) }
-
-abbrev pub after_remove : Operation → RemoveBeside → State → State
-after_remove o RemoveBeside.On s = set_operation (Some o) s
-after_remove o (RemoveBeside.Left path born) s = relist path born (set_operation (Some o) s)
-after_remove o (RemoveBeside.Disabled path) s = disable_path path (set_operation (Some o) s)
-after_remove o (RemoveBeside.Ejected path born) s = relist path born (unplug born (set_operation (Some o) s))
-after_remove o RemoveBeside.Over s = set_operation None s
-
-abbrev pub removal_lifted : State → RemovalMove → Step
-removal_lifted s m =
-    record { label = m.label; state = after_remove (Operation.Removing m.frame) m.beside (with_core m.core s) }
-
-abbrev pub surprise_lifted : State → SurpriseMove → Step
-surprise_lifted s m =
-    record { label = m.label; state = after_remove (Operation.Surprising m.frame) m.beside (with_core m.core s) }
-
-abbrev pub finish_lifted : State → FinishMove → Step
-finish_lifted s m =
-    record { label = m.label; state = after_remove (Operation.Finishing m.frame) m.beside (with_core m.core s) }
+abbrev pub job_lifted : State → JobMove → Step
+job_lifted s m = record { label = m.label; state = after_job m.frame m.beside (with_core m.core s) }
 
 -- Who waits -------------------------------------------------------------------
 
@@ -73,36 +55,6 @@ phase_walk (Starting w) = Some w
 phase_walk (Removing w) = Some w
 phase_walk (Due problem) = None
 
-abbrev pub rebalance_walk : RebalanceStage → Option Walk
-rebalance_walk (RebalanceStage.Asking w) = Some w
-rebalance_walk (RebalanceStage.TakingBack w) = Some w
-rebalance_walk (RebalanceStage.Cancelling w) = Some w
-rebalance_walk (RebalanceStage.Stopping w) = Some w
-rebalance_walk (RebalanceStage.Restarting w) = Some w
-rebalance_walk _ = None
-
-abbrev pub removal_walk : RemovalStage → Option Walk
-removal_walk (RemovalStage.Asking w) = Some w
-removal_walk (RemovalStage.TakingBack w) = Some w
-removal_walk (RemovalStage.Cancelling w) = Some w
-removal_walk (RemovalStage.Removing w) = Some w
-removal_walk _ = None
-
-abbrev pub surprise_walk : SurpriseStage → Option Walk
-surprise_walk (SurpriseStage.Telling w) = Some w
-surprise_walk (SurpriseStage.Removing w) = Some w
-surprise_walk _ = None
-
-abbrev pub finish_walk : FinishStage → Option Walk
-finish_walk (FinishStage.Removing w) = Some w
-finish_walk _ = None
-
-abbrev pub operation_walk : Operation → Option Walk
-operation_walk (Operation.Rebalancing r) = rebalance_walk r.stage
-operation_walk (Operation.Removing o) = removal_walk o.stage
-operation_walk (Operation.Surprising o) = surprise_walk o.stage
-operation_walk (Operation.Finishing f) = finish_walk f.stage
-
 abbrev pub is_waiting : Option Walk → Bool
 is_waiting None = false
 is_waiting (Some w) = w.waits
@@ -112,26 +64,43 @@ is_ready a = not (is_waiting (phase_walk a.phase))
 
 -- What is next -------------------------------------------------------------------
 
+-- where the request of the device that is next has ended: how the operation stands then
+abbrev pub after_end : Core → Job → Bool → Node → Bool → Course → Option Job
+after_end c j in_world node bad Course.Rebalancing = rebalances.after_end c j node bad j.stage
+after_end c j in_world node bad Course.Removing = removals.after_end c j node bad j.stage
+after_end c j in_world node bad Course.Surprising = surprises.after_end j j.stage
+after_end c j in_world node bad Course.Finishing = finishes.after_end c j node in_world j.stage
+
+-- what an operation does while no request is on its way
+abbrev pub acts : Core → Job → Bool → List Handle → Option Node → Course → Option (Doing JobMove)
+acts c j in_world handles n Course.Rebalancing = rebalances.acts c j j.stage n
+acts c j in_world handles n Course.Removing = option_map (λ m. Does m) (removals.acts c j handles j.stage n)
+acts c j in_world handles n Course.Surprising = option_map (λ m. Does m) (surprises.acts c j in_world handles j.stage n)
+acts c j in_world handles n Course.Finishing = option_map (λ m. Does m) (finishes.acts c j handles j.stage n)
+
+-- the next step of an operation that goes so; the device that is next stands first, and without it no request goes on
+abbrev pub job_step : Core → Job → Course → Bool → List Handle → Option Walk → Option Node → Option (Doing JobMove)
+job_step c j course in_world handles None n = acts c j in_world handles n course
+job_step c j course in_world handles (Some w) None = None
+job_step c j course in_world handles (Some w) (Some node) =
+    option_map (λ m. Does m) (walks c j node w (after_end c j in_world node (is_bad w) course))
+
 abbrev pub is_born : List Device → Option Node → Bool
 is_born world None = false
 is_born world (Some n) = is_in_world world n.born
 
-abbrev pub is_target_in_world : State → Surprise → Bool
-is_target_in_world s o = is_born s.world (node_at o.target s.core.nodes)
-
--- the device that is being finished
-abbrev pub is_current_in_world : State → Finish → Bool
-is_current_in_world s f = is_born s.world (first_node s.core.nodes f.todo)
+-- is the device in the world whose place there decides? In a surprise removal that is the target, else the device that is
+-- being finished
+abbrev pub is_back : State → Job → Course → Bool
+is_back s j Course.Surprising = is_born s.world (node_at j.target s.core.nodes)
+is_back s j _ = is_born s.world (first_node s.core.nodes j.todo)
 
 -- does its walk wait?
-abbrev pub operation_next : State → Operation → Bool → Option (Doing Step)
-operation_next s o true = None
-operation_next s (Operation.Rebalancing r) false = option_map (doing_map (rebalance_lifted s)) (rebalanced s.core r)
-operation_next s (Operation.Removing o) false = option_map (λ m. Does (removal_lifted s m)) (removed s.core o s.handles)
-operation_next s (Operation.Surprising o) false =
-    option_map (λ m. Does (surprise_lifted s m)) (surprised s.core o (is_target_in_world s o) s.handles)
-operation_next s (Operation.Finishing f) false =
-    option_map (λ m. Does (finish_lifted s m)) (finished s.core f (is_current_in_world s f) s.handles)
+abbrev pub operation_next : State → Job → Bool → Option (Doing Step)
+operation_next s j true = None
+operation_next s j false =
+    option_map (doing_map (job_lifted s))
+    (job_step s.core j (course_of j.kind) (is_back s j (course_of j.kind)) s.handles j.walk (first_node s.core.nodes j.todo))
 
 -- an activity has a node; without one there is no step
 abbrev pub activity_next : State → Activity → Option Node → Option (Doing Step)
@@ -157,8 +126,8 @@ abbrev pub idle_next : Settings → State → Option Activity → Option (Doing 
 idle_next settings s (Some a) = activity_next s a (node_at a.serial s.core.nodes)
 idle_next settings s None = task_next settings s (slice_get s.tasks 0)
 
-abbrev pub next_of : Settings → State → Option Operation → Option (Doing Step)
-next_of settings s (Some o) = operation_next s o (is_waiting (operation_walk o))
+abbrev pub next_of : Settings → State → Option Job → Option (Doing Step)
+next_of settings s (Some j) = operation_next s j (is_waiting j.walk)
 next_of settings s None = idle_next settings s (find is_ready s.activities)
 
 abbrev pub next : Settings → State → Option (Doing Step)
@@ -187,8 +156,8 @@ abbrev pub due_task : State → Option Task → Option Beginning
 due_task s None = None
 due_task s (Some task) = due_duty s task.kind task.serial
 
-abbrev pub due_with : State → Option Operation → Option Beginning
-due_with s (Some o) = None
+abbrev pub due_with : State → Option Job → Option Beginning
+due_with s (Some j) = None
 due_with s None = due_task s (slice_get s.tasks 0)
 
 abbrev pub due : State → Option Beginning

@@ -5,12 +5,12 @@ use Rattle.resource_reqs.specs.Resources.{Res, Reqs}
 use Rattle.resource_reqs.specs.Spelling.Answer.{assignment, no_fit, spent}
 use Rattle.pnp_model.specs.Keyed.{those, without_first}
 use Rattle.pnp_model.specs.Tests.{has, is_started}
-use Rattle.pnp_model.specs.Walks.{walk_of, is_bad, has_ended}
 use Rattle.pnp_model.specs.Cores.{node_at, serials_of, set_problem}
 use Rattle.pnp_model.specs.Trees.{above, stands_up}
-use Rattle.pnp_model.specs.Frames.{Move, Ask, asked, state_label, ended, first_node, rest, fixed_beside}
-use Rattle.pnp_model.specs.Records.{Node, Core, Walk, Found, Doing, SearchProblem, Rebalance, RebalanceStage}
-use Rattle.pnp_model.specs.Records.RebalanceStage.{Asking, TakingBack, Searching, Cancelling, Stuck, Stopping, Committing, Restarting, Failed, Ending}
+use Rattle.pnp_model.specs.Frames.{ended, rest, fixed_beside}
+use Rattle.pnp_model.specs.Jobs.{JobMove, Beside, moves, job_of, stands, begins, each_gets, closes}
+use Rattle.pnp_model.specs.Records.{Node, Core, Found, Doing, SearchProblem, Job, Stage}
+use Rattle.pnp_model.specs.Records.Stage.{Asking, TakingBack, Searching, Cancelling, Stuck, Stopping, Committing, Restarting, Failed, Ending}
 use Rattle.pnp_model.specs.Records.Doing.{Does, Searches}
 use Rattle.pnp_labels.specs.declared.label.Label.{Label}
 use Rattle.pnp_labels.specs.declared.words.Minor.{Minor}
@@ -18,108 +18,77 @@ use Rattle.pnp_labels.specs.declared.states.Problem.{Problem}
 use Rattle.pnp_labels.specs.declared.label.OpKind.{OpKind}
 use Rattle.pnp_labels.specs.declared.label.OpEnd.{OpEnd}
 
--- what the machine has to do: nothing; put the surprise task of a device at the head; or close the
--- operation, after which the target of a rebalance has an activity before its START walk, before its REMOVE walk, or none
-pub data RebalanceBeside : Type 0 where
-  On : RebalanceBeside
-  FailedRestart : (serial : ℕ) → RebalanceBeside
-  OverStart : RebalanceBeside
-  OverUndo : RebalanceBeside
-  OverDropped : RebalanceBeside
-  OverChange : RebalanceBeside
-
-abbrev pub RebalanceMove : Type 0
-RebalanceMove = Move Rebalance RebalanceBeside
-
-abbrev pub moves : Label → Core → Rebalance → RebalanceMove
-moves label c r = record { label = label; core = c; frame = r; beside = RebalanceBeside.On }
-
 -- what comes next, by the devices that are still to do
 
 -- after a search without an assignment a rebalance owes its target a problem; a change leaves all as it was
-abbrev pub cancelled : Option Reqs → RebalanceStage
+abbrev pub cancelled : Option Reqs → Stage
 cancelled None = Stuck
 cancelled (Some wanted) = Ending
 
-abbrev pub cancel_on : Rebalance → List ℕ → Rebalance
-cancel_on r [] = record r { todo = []; stage = cancelled r.wanted }
-cancel_on r (k ∷ ks) = record r { todo = k ∷ ks; stage = Cancelling (walk_of Minor.CancelStop) }
+abbrev pub cancel_on : Job → List ℕ → Job
+cancel_on r todo = each_gets Minor.CancelStop Cancelling r todo (stands r [] (cancelled r.wanted))
 
 -- has the target of a change not agreed?
 abbrev pub has_refused_in : Option Reqs → Bool → Bool
 has_refused_in None agreed = false
 has_refused_in (Some wanted) agreed = not agreed
 
-abbrev pub has_refused : Rebalance → Bool
+abbrev pub has_refused : Job → Bool
 has_refused r = has_refused_in r.wanted (has r.agreed r.target)
 
-abbrev pub search_on : Rebalance → Bool → Rebalance
-search_on r false = record r { todo = []; stage = Searching }
-search_on r true = cancel_on r r.agreed
+-- after all have answered the search follows, but where the target of a change refused
+abbrev pub ask_on : Job → List ℕ → Job
+ask_on r todo =
+    each_gets Minor.QueryStop Asking r todo (if has_refused r then cancel_on r r.agreed else stands r [] Searching)
 
-abbrev pub ask_on : Rebalance → List ℕ → Rebalance
-ask_on r [] = search_on r (has_refused r)
-ask_on r (k ∷ ks) = record r { todo = k ∷ ks; stage = Asking (walk_of Minor.QueryStop) }
-
-abbrev pub stop_on : Rebalance → List ℕ → Rebalance
-stop_on r [] = record r { todo = []; stage = Committing }
-stop_on r (k ∷ ks) = record r { todo = k ∷ ks; stage = Stopping (walk_of Minor.Stop) }
+abbrev pub stop_on : Job → List ℕ → Job
+stop_on r todo = each_gets Minor.Stop Stopping r todo (stands r [] Committing)
 
 -- without those at the front that have a device above which is not Started
 abbrev pub startable : List Node → List ℕ → List ℕ
 startable nodes [] = []
 startable nodes (k ∷ ks) = if stands_up nodes k then k ∷ ks else startable nodes ks
 
-abbrev pub restart_from : Rebalance → List ℕ → Rebalance
-restart_from r [] = record r { todo = []; stage = Ending }
-restart_from r (k ∷ ks) = record r { todo = k ∷ ks; stage = Restarting (walk_of Minor.Start) }
-
-abbrev pub restart_on : List Node → Rebalance → List ℕ → Rebalance
-restart_on nodes r todo = restart_from r (startable nodes todo)
+abbrev pub restart_on : List Node → Job → List ℕ → Job
+restart_on nodes r todo = each_gets Minor.Start Restarting r (startable nodes todo) (stands r [] Ending)
 
 -- the begin: each Started device but the root is asked, the greatest serial first
 
 abbrev pub is_asked : Node → Bool
 is_asked n = is_started n.state && not (n.serial == 0)
 
-abbrev pub begun_with : Core → Node → Option Reqs → Rebalance
-begun_with c node wanted =
-    ask_on
-    (record { target = node.serial; path = node.path; wanted = wanted; todo = []; agreed = []; refused = []; found = no_fit; stage = Searching })
-    (reverse (serials_of (those is_asked c.nodes)))
+abbrev pub begun_with : Core → OpKind → Node → Option Reqs → Job
+begun_with c kind node wanted =
+    ask_on (record (job_of kind node) { wanted = wanted }) (reverse (serials_of (those is_asked c.nodes)))
 
-abbrev pub begun_rebalance : Core → Node → Rebalance
-begun_rebalance c node = begun_with c node None
+abbrev pub begun_rebalance : Core → Node → Job
+begun_rebalance c node = begun_with c OpKind.Rebalance node None
 
-abbrev pub begun_change : Core → Node → Reqs → Rebalance
-begun_change c node wanted = begun_with c node (Some wanted)
+abbrev pub begun_change : Core → Node → Reqs → Job
+begun_change c node wanted = begun_with c OpKind.Change node (Some wanted)
 
--- asking
+-- where the request of the device that is next has ended: after a bad end the device refuses, and is told at once that it
+-- stays; a restart that ends badly leaves a problem
+
+abbrev pub answers : Job → Node → Bool → Job
+answers r node true = begins (record r { refused = node.serial ∷ r.refused }) r.todo TakingBack Minor.CancelStop
+answers r node false = ask_on (record r { agreed = node.serial ∷ r.agreed }) (rest r.todo)
 
 -- a device below which this one refused is not asked
 abbrev pub is_not_above : List Node → ℕ → ℕ → Bool
 is_not_above nodes k j = not (has (above nodes k) j)
 
-abbrev pub end_ask : Core → Rebalance → Node → Bool → RebalanceMove
-end_ask c r node false =
-    moves (state_label node Minor.QueryStop false) (ended c node Minor.QueryStop false)
-    (ask_on (record r { agreed = node.serial ∷ r.agreed }) (rest r.todo))
-end_ask c r node true =
-    moves (state_label node Minor.QueryStop true) (ended c node Minor.QueryStop true)
-    (record r { refused = node.serial ∷ r.refused; stage = TakingBack (walk_of Minor.CancelStop) })
+abbrev pub after_restart : Core → Job → Node → Bool → Job
+after_restart c r node true = stands r r.todo Failed
+after_restart c r node false = restart_on (ended c node Minor.Start false).nodes r (rest r.todo)
 
-abbrev pub asks : Rebalance → (Walk → RebalanceStage) → Ask → RebalanceMove
-asks r stage ask = moves ask.label ask.core (record r { stage = stage ask.walk })
-
-abbrev pub ask_step : Core → Rebalance → Node → Walk → Bool → RebalanceMove
-ask_step c r node w true = end_ask c r node (is_bad w)
-ask_step c r node w false = asks r Asking (asked c node w)
-
-abbrev pub take_back : Core → Rebalance → Node → Walk → Bool → RebalanceMove
-take_back c r node w true =
-    moves (state_label node Minor.CancelStop false) (ended c node Minor.CancelStop false)
-    (ask_on r (those (is_not_above c.nodes node.serial) (rest r.todo)))
-take_back c r node w false = asks r TakingBack (asked c node w)
+abbrev pub after_end : Core → Job → Node → Bool → Stage → Option Job
+after_end c r node bad Asking = Some (answers r node bad)
+after_end c r node bad TakingBack = Some (ask_on r (those (is_not_above c.nodes node.serial) (rest r.todo)))
+after_end c r node bad Cancelling = Some (cancel_on r (rest r.todo))
+after_end c r node bad Stopping = Some (stop_on r (rest r.todo))
+after_end c r node bad Restarting = Some (after_restart c r node bad)
+after_end c r node bad _ = None
 
 -- the search
 
@@ -128,27 +97,27 @@ reqs_of None = []
 reqs_of (Some n) = n.reqs
 
 -- all that agreed but the target
-abbrev pub others : Rebalance → List ℕ
+abbrev pub others : Job → List ℕ
 others r = without_first (λ j. j == r.target) r.agreed
 
-abbrev pub movers : Rebalance → List ℕ
+abbrev pub movers : Job → List ℕ
 movers r = r.target ∷ others r
 
 abbrev pub reqs_or : Option Reqs → Reqs → Reqs
 reqs_or None own = own
 reqs_or (Some wanted) own = wanted
 
-abbrev pub target_reqs : Core → Rebalance → Reqs
+abbrev pub target_reqs : Core → Job → Reqs
 target_reqs c r = reqs_or r.wanted (reqs_of (node_at r.target c.nodes))
 
-abbrev pub group_problem : Core → Rebalance → SearchProblem
+abbrev pub group_problem : Core → Job → SearchProblem
 group_problem c r =
     record {
       fixed = fixed_beside c (movers r);
       movers = target_reqs c r ∷ map (λ k. reqs_of (node_at k c.nodes)) (others r);
     }
 
-abbrev pub searched : Core → Rebalance → Found → RebalanceMove
+abbrev pub searched : Core → Job → Found → JobMove
 searched c r (assignment plan) =
     moves (Label.Fits r.path) c (stop_on (record r { found = assignment plan }) (reverse r.agreed))
 searched c r no_fit = moves (Label.NoFit r.path) c (cancel_on (record r { found = no_fit }) r.agreed)
@@ -156,27 +125,17 @@ searched c r spent = moves (Label.Spent r.path) c (cancel_on (record r { found =
 
 -- nothing fits
 
-abbrev pub cancel_step : Core → Rebalance → Node → Walk → Bool → RebalanceMove
-cancel_step c r node w true =
-    moves (state_label node Minor.CancelStop false) (ended c node Minor.CancelStop false) (cancel_on r (rest r.todo))
-cancel_step c r node w false = asks r Cancelling (asked c node w)
-
 abbrev pub trouble_of : Found → Problem
 trouble_of spent = Problem.Budget
 trouble_of no_fit = Problem.NormalConflict
 trouble_of (assignment plan) = Problem.NormalConflict
 
-abbrev pub stuck : Core → Rebalance → RebalanceMove
+abbrev pub stuck : Core → Job → JobMove
 stuck c r =
     moves (Label.Trouble r.path (trouble_of r.found)) (set_problem r.target (Some (trouble_of r.found)) c)
-    (record r { stage = Ending })
+    (stands r [] Ending)
 
 -- it fits
-
-abbrev pub stop_step : Core → Rebalance → Node → Walk → Bool → RebalanceMove
-stop_step c r node w true =
-    moves (state_label node Minor.Stop false) (ended c node Minor.Stop false) (stop_on r (rest r.todo))
-stop_step c r node w false = asks r Stopping (asked c node w)
 
 -- the holdings of a mover are its part of the plan; all others keep theirs
 abbrev pub part_for : ℕ → List ℕ → List (List Res) → List Res → List Res
@@ -198,30 +157,19 @@ abbrev pub committed : Option Reqs → ℕ → List ℕ → List (List Res) → 
 committed wanted target serials plan n =
     record n { reqs = reqs_after wanted target n; holds = part_for n.serial serials plan n.holds }
 
-abbrev pub commit : Core → Rebalance → Core
+abbrev pub commit : Core → Job → Core
 commit c r = record c { nodes = map (committed r.wanted r.target (movers r) (plan_of r.found)) c.nodes }
 
-abbrev pub commit_step : Core → Rebalance → RebalanceMove
+abbrev pub commit_step : Core → Job → JobMove
 commit_step c r = moves (Label.Commit (length (movers r))) (commit c r) (restart_on c.nodes r r.agreed)
 
-abbrev pub end_restart : Core → Rebalance → Node → Bool → RebalanceMove
-end_restart c r node true =
-    moves (state_label node Minor.Start true) (ended c node Minor.Start true) (record r { stage = Failed })
-end_restart c r node false =
-    moves (state_label node Minor.Start false) (ended c node Minor.Start false)
-    (restart_on (ended c node Minor.Start false).nodes r (rest r.todo))
-
-abbrev pub restart_step : Core → Rebalance → Node → Walk → Bool → RebalanceMove
-restart_step c r node w true = end_restart c r node (is_bad w)
-restart_step c r node w false = asks r Restarting (asked c node w)
-
-abbrev pub failed : Core → Rebalance → Node → RebalanceMove
+abbrev pub failed : Core → Job → Node → JobMove
 failed c r node =
     record {
       label = Label.Trouble node.path Problem.FailedStart;
       core = set_problem node.serial (Some Problem.FailedStart) c;
       frame = restart_on c.nodes r (rest r.todo);
-      beside = RebalanceBeside.FailedRestart node.serial;
+      beside = Beside.FailedRestart node.serial;
     }
 
 -- the end
@@ -236,42 +184,21 @@ abbrev pub result : Found → Bool → OpEnd
 result found true = OpEnd.Refused
 result found false = end_of found
 
-abbrev pub kind_of : Option Reqs → OpKind
-kind_of None = OpKind.Rebalance
-kind_of (Some wanted) = OpKind.Change
+-- after a rebalance its target starts, where each device above it is Started, or loses its drivers
+abbrev pub over : Core → Job → Found → Option Reqs → Beside
+over c r (assignment plan) None = if stands_up c.nodes r.target then Beside.OverStart else Beside.Over
+over c r no_fit None = Beside.OverUndo
+over c r spent None = Beside.OverUndo
+over c r found (Some wanted) = Beside.Over
 
-abbrev pub moved_on : Bool → RebalanceBeside
-moved_on true = RebalanceBeside.OverStart
-moved_on false = RebalanceBeside.OverDropped
+abbrev pub close : Core → Job → JobMove
+close c r = closes c r (result r.found (has_refused r)) (over c r r.found r.wanted)
 
-abbrev pub over : Core → Rebalance → Found → Option Reqs → RebalanceBeside
-over c r (assignment plan) None = moved_on (stands_up c.nodes r.target)
-over c r no_fit None = RebalanceBeside.OverUndo
-over c r spent None = RebalanceBeside.OverUndo
-over c r found (Some wanted) = RebalanceBeside.OverChange
-
-abbrev pub close : Core → Rebalance → RebalanceMove
-close c r =
-    record {
-      label = Label.End (kind_of r.wanted) r.path (result r.found (has_refused r));
-      core = c;
-      frame = r;
-      beside = over c r r.found r.wanted;
-    }
-
--- the device whose walk runs stands first; without it there is no step
-abbrev pub rebalance_step : Core → Rebalance → RebalanceStage → Option Node → Option (Doing RebalanceMove)
-rebalance_step c r Searching o = Some (Searches (group_problem c r) (searched c r))
-rebalance_step c r Stuck o = Some (Does (stuck c r))
-rebalance_step c r Committing o = Some (Does (commit_step c r))
-rebalance_step c r Ending o = Some (Does (close c r))
-rebalance_step c r (Asking w) (Some node) = Some (Does (ask_step c r node w (has_ended w (length node.stack))))
-rebalance_step c r (TakingBack w) (Some node) = Some (Does (take_back c r node w (has_ended w (length node.stack))))
-rebalance_step c r (Cancelling w) (Some node) = Some (Does (cancel_step c r node w (has_ended w (length node.stack))))
-rebalance_step c r (Stopping w) (Some node) = Some (Does (stop_step c r node w (has_ended w (length node.stack))))
-rebalance_step c r (Restarting w) (Some node) = Some (Does (restart_step c r node w (has_ended w (length node.stack))))
-rebalance_step c r Failed (Some node) = Some (Does (failed c r node))
-rebalance_step c r _ None = None
-
-abbrev pub rebalanced : Core → Rebalance → Option (Doing RebalanceMove)
-rebalanced c r = rebalance_step c r r.stage (first_node c.nodes r.todo)
+-- without a request on its way; but for a failed restart no device is next
+abbrev pub acts : Core → Job → Stage → Option Node → Option (Doing JobMove)
+acts c r Searching n = Some (Searches (group_problem c r) (searched c r))
+acts c r Stuck n = Some (Does (stuck c r))
+acts c r Committing n = Some (Does (commit_step c r))
+acts c r Failed (Some node) = Some (Does (failed c r node))
+acts c r Ending n = Some (Does (close c r))
+acts c r _ n = None

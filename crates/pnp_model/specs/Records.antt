@@ -88,85 +88,56 @@ pub record Activity : Type 0 where
 abbrev pub Found : Type 0
 Found = spelling.Answer
 
--- In each operation the head of `todo` is the device of the walk, or of the step, that is next.
+-- how an operation goes: a change is a rebalance with what is wanted, a disable and an eject are removals in order
+pub data Course : Type 0 where
+  Rebalancing : Course
+  Removing : Course
+  Surprising : Course
+  Finishing : Course
 
-pub data RebalanceStage : Type 0 where
-  Asking : (walk : Walk) → RebalanceStage  -- QUERY_STOP
-  TakingBack : (walk : Walk) → RebalanceStage  -- CANCEL_STOP of one that refused
-  Searching : RebalanceStage
-  Cancelling : (walk : Walk) → RebalanceStage  -- CANCEL_STOP of one that agreed
-  Stuck : RebalanceStage  -- the problem of the target is due
-  Stopping : (walk : Walk) → RebalanceStage
-  Committing : RebalanceStage
-  Restarting : (walk : Walk) → RebalanceStage
-  Failed : RebalanceStage  -- problem 10 is due
-  Ending : RebalanceStage
+abbrev pub course_of : OpKind → Course
+course_of OpKind.Rebalance = Course.Rebalancing
+course_of OpKind.Change = Course.Rebalancing
+course_of OpKind.Disable = Course.Removing
+course_of OpKind.Eject = Course.Removing
+course_of OpKind.Surprise = Course.Surprising
+course_of OpKind.Finish = Course.Finishing
 
--- a rebalance, or the change of its target
-pub record Rebalance : Type 0 where
-  pub target : ℕ
-  pub path : Text  -- of the target
-  pub wanted : Option Reqs  -- in a change: what the target requires from the commit on
-  pub todo : List ℕ
-  pub agreed : List ℕ  -- in ascending order
-  pub refused : List ℕ
-  pub found : Found
-  pub stage : RebalanceStage
+-- what is done with the device that is next, the head of `todo`
+pub data Stage : Type 0 where
+  Next : Stage  -- it is asked or finished, or passed over; in a finish, the ready device of the greatest serial is taken
+  Asking : Stage  -- whether it may stop, or may be removed
+  TakingBack : Stage  -- it refused, and is told that it stays
+  Cancelling : Stage  -- it agreed, and is told that it stays
+  Searching : Stage  -- none is next
+  Stuck : Stage  -- the problem of the target is due
+  Stopping : Stage
+  Committing : Stage
+  Restarting : Stage
+  Failed : Stage  -- problem 10 is due
+  Telling : Stage  -- that it has gone
+  Removing : Stage  -- its drivers
+  Settling : Stage  -- it leaves or remains
+  Leaving : Stage  -- in a finish, its node leaves
+  Holding : Stage  -- in a finish, its problem is due
+  Ending : Stage
 
-pub data RemovalStage : Type 0 where
-  Next : RemovalStage  -- the head of `todo` is asked next, or refuses unasked
-  Asking : (walk : Walk) → RemovalStage  -- QUERY_REMOVE
-  TakingBack : (walk : Walk) → RemovalStage  -- CANCEL_REMOVE of the one that refused
-  Cancelling : (walk : Walk) → RemovalStage  -- CANCEL_REMOVE of one that agreed
-  Removing : (walk : Walk) → RemovalStage
-  Settling : RemovalStage
-  Ending : RemovalStage
-
-pub record Removal : Type 0 where
+-- an operation
+pub record Job : Type 0 where
   pub kind : OpKind
   pub target : ℕ
   pub path : Text  -- of the target, which may leave before the end
-  pub set : List ℕ  -- in leaving order
+  pub wanted : Option Reqs  -- in a change: what the target requires from the commit on
+  pub set : List ℕ  -- the devices that are to be removed, in leaving order
   pub ejecting : List ℕ  -- the members at begin of ejection relations whose owner is in the set
-  pub todo : List ℕ
-  pub agreed : List ℕ  -- the last one first
-  pub refuser : Option ℕ
-  pub stage : RemovalStage
-
-pub data SurpriseStage : Type 0 where
-  Telling : (walk : Walk) → SurpriseStage  -- SURPRISE_REMOVAL
-  Next : SurpriseStage  -- the head of `todo` is finished next, or stays behind
-  Removing : (walk : Walk) → SurpriseStage
-  Settling : SurpriseStage
-  Ending : SurpriseStage
-
-pub record Surprise : Type 0 where
-  pub target : ℕ
-  pub path : Text  -- of the target, which may leave before the end
-  pub set : List ℕ  -- in leaving order
   pub told : List ℕ  -- those of the set that were SurpriseRemoved at begin
-  pub behind : List ℕ  -- those that stayed behind, the last one first
-  pub todo : List ℕ
-  pub stage : SurpriseStage
-
-pub data FinishStage : Type 0 where
-  Next : FinishStage  -- the ready device of the greatest serial is next, or the end
-  Removing : (walk : Walk) → FinishStage
-  Leaving : FinishStage  -- its node is to leave
-  Holding : FinishStage  -- its problem is due
-
--- devices that stayed behind when they had gone lose their drivers
-pub record Finish : Type 0 where
-  pub target : ℕ
-  pub path : Text  -- of the target, which may leave before the end
-  pub todo : List ℕ  -- the device that is being finished, if any
-  pub stage : FinishStage
-
-pub data Operation : Type 0 where
-  Rebalancing : (frame : Rebalance) → Operation
-  Removing : (frame : Removal) → Operation
-  Surprising : (frame : Surprise) → Operation
-  Finishing : (frame : Finish) → Operation
+  pub todo : List ℕ  -- the device that is next stands first
+  pub agreed : List ℕ  -- the last one first
+  pub refused : List ℕ
+  pub behind : List ℕ  -- those that stayed behind when they had gone, the last one first
+  pub found : Found
+  pub stage : Stage
+  pub walk : Option Walk  -- the request on its way through the drivers of the device that is next
 
 -- what a task is for: to list the children of a device, to start it, or to begin an operation for it
 pub data Duty : Type 0 where
@@ -186,7 +157,7 @@ pub record State : Type 0 where
   pub next_serial : ℕ
   pub disabled : List Text
   pub activities : List Activity
-  pub operation : Option Operation
+  pub operation : Option Job
   pub tasks : List Task
   pub windows : List Window
   pub handles : List Handle

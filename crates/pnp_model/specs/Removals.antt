@@ -1,15 +1,15 @@
 -- The removal in order, with veto: disable and eject.
-use Rattle.std.specs.Prelude.{ℕ, ◌==◌, Bool, true, false, ◌&&◌, ◌||◌, List, [], ◌∷◌, Option, Some, None, length, map}
+use Rattle.std.specs.Prelude.{ℕ, ◌==◌, Bool, true, false, ◌&&◌, ◌||◌, List, [], ◌∷◌, Option, Some, None, map, if◌then◌else◌}
 use Rattle.pnp_model.specs.Keyed.{those}
 use Rattle.pnp_model.specs.Tests.{has, is_eject, is_started, is_surprise_removed, same_rel}
-use Rattle.pnp_model.specs.Walks.{walk_of, is_bad, has_ended}
+use Rattle.pnp_model.specs.Walks.{walk_of}
 use Rattle.pnp_model.specs.Cores.{node_at, set_problem, drop_node, stack_of, path_of}
 use Rattle.pnp_model.specs.Trees.{leaving}
 use Rattle.pnp_model.specs.Handles.{is_open}
-use Rattle.pnp_model.specs.Frames.{Move, Ask, asked, state_label, ended, first_node, rest}
-use Rattle.pnp_model.specs.Records.{Node, Core, Walk, Handle, Relation, Removal, RemovalStage}
-use Rattle.pnp_model.specs.Records.RemovalStage.{Next, Asking, TakingBack, Cancelling, Removing, Settling, Ending}
-use Rattle.pnp_labels.specs.Texts.{Text}
+use Rattle.pnp_model.specs.Frames.{rest}
+use Rattle.pnp_model.specs.Jobs.{JobMove, Beside, moves, job_of, stands, begins, each_gets, walks, closes}
+use Rattle.pnp_model.specs.Records.{Node, Core, Handle, Relation, Job, Stage}
+use Rattle.pnp_model.specs.Records.Stage.{Next, Asking, TakingBack, Cancelling, Removing, Settling, Ending}
 use Rattle.pnp_labels.specs.declared.label.Label.{Label}
 use Rattle.pnp_labels.specs.declared.words.Minor.{Minor}
 use Rattle.pnp_labels.specs.declared.states.DevState.{DevState}
@@ -18,47 +18,28 @@ use Rattle.pnp_labels.specs.declared.label.OpKind.{OpKind}
 use Rattle.pnp_labels.specs.declared.label.OpEnd.{OpEnd}
 use Rattle.pnp_labels.specs.declared.words.RelKind.{RelKind}
 
--- what the machine has to do: nothing; a node left; the path joins the disabled list; the device was
--- ejected and its node left; the operation closes
-pub data RemoveBeside : Type 0 where
-  On : RemoveBeside
-  Left : (path : Text) (born : ℕ) → RemoveBeside
-  Disabled : (path : Text) → RemoveBeside
-  Ejected : (path : Text) (born : ℕ) → RemoveBeside
-  Over : RemoveBeside
-
-abbrev pub RemovalMove : Type 0
-RemovalMove = Move Removal RemoveBeside
-
-abbrev pub moves : Label → Core → Removal → RemovalMove
-moves label c o = record { label = label; core = c; frame = o; beside = RemoveBeside.On }
-
 -- what comes next, by the devices that are still to do
 
-abbrev pub finish_with : Removal → List ℕ → List ℕ → Removal
-finish_with o todo [] = record o { todo = todo; stage = Settling }
-finish_with o todo (d ∷ ds) = record o { todo = todo; stage = Removing (walk_of Minor.Remove) }
+abbrev pub finish_with : Job → List ℕ → List ℕ → Job
+finish_with o todo [] = stands o todo Settling
+finish_with o todo (d ∷ ds) = begins o todo Removing Minor.Remove
 
 -- a device is finished: where it has a stack by a REMOVE walk first
-abbrev pub finish_on : List Node → Removal → List ℕ → Removal
-finish_on nodes o [] = record o { todo = []; stage = Ending }
+abbrev pub finish_on : List Node → Job → List ℕ → Job
+finish_on nodes o [] = stands o [] Ending
 finish_on nodes o (k ∷ ks) = finish_with o (k ∷ ks) (stack_of (node_at k nodes))
 
-abbrev pub ask_on : List Node → Removal → List ℕ → Removal
+abbrev pub ask_on : List Node → Job → List ℕ → Job
 ask_on nodes o [] = finish_on nodes o o.set
-ask_on nodes o (k ∷ ks) = record o { todo = k ∷ ks; stage = Next }
+ask_on nodes o (k ∷ ks) = stands o (k ∷ ks) Next
 
-abbrev pub cancel_on : Removal → List ℕ → Removal
-cancel_on o [] = record o { todo = []; stage = Ending }
-cancel_on o (k ∷ ks) = record o { todo = k ∷ ks; stage = Cancelling (walk_of Minor.CancelRemove) }
+abbrev pub cancel_on : Job → List ℕ → Job
+cancel_on o todo = each_gets Minor.CancelRemove Cancelling o todo (stands o [] Ending)
 
 -- the begin
 
 abbrev pub is_ejecting : List ℕ → Relation → Bool
 is_ejecting set r = same_rel RelKind.Ejection r.kind && has set r.owner
-
-abbrev pub ejecting : Core → List ℕ → List ℕ
-ejecting c set = map (λ r. r.member) (those (is_ejecting set) c.relations)
 
 -- such a device is asked, or refuses unasked
 abbrev pub is_queried : DevState → Bool
@@ -68,67 +49,48 @@ abbrev pub is_queried_node : Option Node → Bool
 is_queried_node None = false
 is_queried_node (Some n) = is_queried n.state
 
-abbrev pub begun_with : Core → OpKind → Node → List ℕ → Removal
+abbrev pub begun_with : Core → OpKind → Node → List ℕ → Job
 begun_with c kind node set =
     ask_on c.nodes
-    (record { kind = kind; target = node.serial; path = node.path; set = set; ejecting = ejecting c set; todo = []; agreed = []; refuser = None; stage = Ending })
+    (record (job_of kind node) { set = set; ejecting = map (λ r. r.member) (those (is_ejecting set) c.relations) })
     (those (λ k. is_queried_node (node_at k c.nodes)) set)
 
-abbrev pub begun_removal : Core → OpKind → Node → Removal
+abbrev pub begun_removal : Core → OpKind → Node → Job
 begun_removal c kind node = begun_with c kind node (leaving c node.serial)
 
--- asking
+-- where the request of the device that is next has ended: after a bad end the device refuses, and is told first that it stays
 
-abbrev pub asks : Removal → (Walk → RemovalStage) → Ask → RemovalMove
-asks o stage ask = moves ask.label ask.core (record o { stage = stage ask.walk })
+abbrev pub answers : Core → Job → Node → Bool → Job
+answers c o node true = begins (record o { refused = node.serial ∷ o.refused }) o.todo TakingBack Minor.CancelRemove
+answers c o node false = ask_on c.nodes (record o { agreed = node.serial ∷ o.agreed }) (rest o.todo)
 
-abbrev pub end_ask : Core → Removal → Node → Bool → RemovalMove
-end_ask c o node false =
-    moves (state_label node Minor.QueryRemove false) (ended c node Minor.QueryRemove false)
-    (ask_on c.nodes (record o { agreed = node.serial ∷ o.agreed }) (rest o.todo))
-end_ask c o node true =
-    moves (state_label node Minor.QueryRemove true) (ended c node Minor.QueryRemove true)
-    (record o { refuser = Some node.serial; stage = TakingBack (walk_of Minor.CancelRemove) })
-
-abbrev pub ask_step : Core → Removal → Node → Walk → Bool → RemovalMove
-ask_step c o node w true = end_ask c o node (is_bad w)
-ask_step c o node w false = asks o Asking (asked c node w)
+abbrev pub after_end : Core → Job → Node → Bool → Stage → Option Job
+after_end c o node bad Asking = Some (answers c o node bad)
+after_end c o node bad TakingBack = Some (cancel_on o o.agreed)
+after_end c o node bad Cancelling = Some (cancel_on o (rest o.todo))
+after_end c o node bad Removing = Some (stands o o.todo Settling)
+after_end c o node bad _ = None
 
 -- a handle to it is open, or it waits to be finished
 abbrev pub refuses_unasked : List Handle → Node → Bool
 refuses_unasked handles node = is_open handles node.serial || is_surprise_removed node.state
 
--- its query begins
-abbrev pub queried : Removal → Removal
-queried o = record o { stage = Asking (walk_of Minor.QueryRemove) }
+-- nothing is taken back from a device that refuses unasked
+abbrev pub declines : Core → Job → Node → JobMove
+declines c o node =
+    moves (Label.Handles node.path) c (cancel_on (record o { refused = node.serial ∷ o.refused }) o.agreed)
 
--- does it refuse unasked? Then nothing is taken back from it
-abbrev pub query : Core → Removal → Node → Bool → RemovalMove
-query c o node true =
-    moves (Label.Handles node.path) c (cancel_on (record o { refuser = Some node.serial }) o.agreed)
-query c o node false =
-    ask_step c (queried o) node (walk_of Minor.QueryRemove) (has_ended (walk_of Minor.QueryRemove) (length node.stack))
+abbrev pub queried : Job → Job
+queried o = begins o o.todo Asking Minor.QueryRemove
 
--- a veto
+-- does it refuse unasked?
+abbrev pub query : Core → Job → Node → Bool → Option JobMove
+query c o node true = Some (declines c o node)
+query c o node false = walks c (queried o) node (walk_of Minor.QueryRemove) (Some (answers c (queried o) node false))
 
-abbrev pub take_back : Core → Removal → Node → Walk → Bool → RemovalMove
-take_back c o node w true =
-    moves (state_label node Minor.CancelRemove false) (ended c node Minor.CancelRemove false) (cancel_on o o.agreed)
-take_back c o node w false = asks o TakingBack (asked c node w)
+-- finishing: a device remains with a problem, or leaves
 
-abbrev pub cancel_step : Core → Removal → Node → Walk → Bool → RemovalMove
-cancel_step c o node w true =
-    moves (state_label node Minor.CancelRemove false) (ended c node Minor.CancelRemove false) (cancel_on o (rest o.todo))
-cancel_step c o node w false = asks o Cancelling (asked c node w)
-
--- finishing
-
-abbrev pub remove_step : Core → Removal → Node → Walk → Bool → RemovalMove
-remove_step c o node w true =
-    moves (state_label node Minor.Remove false) (ended c node Minor.Remove false) (record o { stage = Settling })
-remove_step c o node w false = asks o Removing (asked c node w)
-
-abbrev pub remains : Core → Removal → Node → Problem → RemoveBeside → RemovalMove
+abbrev pub remains : Core → Job → Node → Problem → Beside → JobMove
 remains c o node problem beside =
     record {
       label = Label.Trouble node.path problem;
@@ -137,49 +99,31 @@ remains c o node problem beside =
       beside = beside;
     }
 
-abbrev pub leaves : Core → Removal → Node → Label → RemoveBeside → RemovalMove
+abbrev pub leaves : Core → Job → Node → Label → Beside → JobMove
 leaves c o node label beside =
     record { label = label; core = drop_node node.serial c; frame = finish_on c.nodes o (rest o.todo); beside = beside }
 
--- another related device: was it, at begin, the member of an ejection relation of an eject?
-abbrev pub settle_related : Core → Removal → Node → Bool → RemovalMove
-settle_related c o node true = remains c o node Problem.HeldForEject RemoveBeside.On
-settle_related c o node false = remains c o node Problem.Held RemoveBeside.On
+-- by the first of these cases
+abbrev pub settle : Core → Job → Node → JobMove
+settle c o node =
+    if has o.set node.parent then leaves c o node (Label.Leave node.path) (Beside.Left node.path node.born)
+    else if node.serial == o.target then
+    if is_eject o.kind then leaves c o node (Label.Ejected node.path) (Beside.Ejected node.path node.born)
+    else remains c o node Problem.Disabled (Beside.Disabled node.path)
+    else if is_eject o.kind && has o.ejecting node.serial then remains c o node Problem.HeldForEject Beside.On
+    else remains c o node Problem.Held Beside.On
 
-abbrev pub settle_target : Core → Removal → Node → Bool → RemovalMove
-settle_target c o node true =
-    leaves c o node (Label.Ejected node.path) (RemoveBeside.Ejected node.path node.born)
-settle_target c o node false = remains c o node Problem.Disabled (RemoveBeside.Disabled node.path)
+-- the end: did a device refuse?
+abbrev pub end_of : Core → List ℕ → OpEnd
+end_of c [] = OpEnd.Done
+end_of c (q ∷ qs) = OpEnd.Veto (path_of (node_at q c.nodes))
 
--- is it the target?
-abbrev pub settle_outer : Core → Removal → Node → Bool → RemovalMove
-settle_outer c o node true = settle_target c o node (is_eject o.kind)
-settle_outer c o node false = settle_related c o node (is_eject o.kind && has o.ejecting node.serial)
+abbrev pub close : Core → Job → JobMove
+close c o = closes c o (end_of c o.refused) Beside.Over
 
--- is its parent in the set?
-abbrev pub settle : Core → Removal → Node → Bool → RemovalMove
-settle c o node true = leaves c o node (Label.Leave node.path) (RemoveBeside.Left node.path node.born)
-settle c o node false = settle_outer c o node (node.serial == o.target)
-
--- the end
-
-abbrev pub end_of : Core → Option ℕ → OpEnd
-end_of c None = OpEnd.Done
-end_of c (Some q) = OpEnd.Veto (path_of (node_at q c.nodes))
-
-abbrev pub close : Core → Removal → RemovalMove
-close c o = record { label = Label.End o.kind o.path (end_of c o.refuser); core = c; frame = o; beside = RemoveBeside.Over }
-
--- the device that is next stands first; without it there is no step
-abbrev pub removal_step : Core → Removal → List Handle → RemovalStage → Option Node → Option RemovalMove
-removal_step c o handles Ending n = Some (close c o)
-removal_step c o handles Next (Some node) = Some (query c o node (refuses_unasked handles node))
-removal_step c o handles (Asking w) (Some node) = Some (ask_step c o node w (has_ended w (length node.stack)))
-removal_step c o handles (TakingBack w) (Some node) = Some (take_back c o node w (has_ended w (length node.stack)))
-removal_step c o handles (Cancelling w) (Some node) = Some (cancel_step c o node w (has_ended w (length node.stack)))
-removal_step c o handles (Removing w) (Some node) = Some (remove_step c o node w (has_ended w (length node.stack)))
-removal_step c o handles Settling (Some node) = Some (settle c o node (has o.set node.parent))
-removal_step c o handles _ None = None
-
-abbrev pub removed : Core → Removal → List Handle → Option RemovalMove
-removed c o handles = removal_step c o handles o.stage (first_node c.nodes o.todo)
+-- without a request on its way; but for the end, the device that is next is there
+abbrev pub acts : Core → Job → List Handle → Stage → Option Node → Option JobMove
+acts c o handles Ending n = Some (close c o)
+acts c o handles Next (Some node) = query c o node (refuses_unasked handles node)
+acts c o handles Settling (Some node) = Some (settle c o node)
+acts c o handles _ n = None

@@ -7,7 +7,7 @@ use Rattle.resource_reqs.specs.Resources.{Res, Reqs}
 use Rattle.pnp_model.specs.Tests.{has}
 use Rattle.pnp_model.specs.Cores.{new_node, add_node}
 use Rattle.pnp_model.specs.Windows.{clip}
-use Rattle.pnp_model.specs.Records.{Node, Core, Device, Activity, Phase, State, Operation, Duty}
+use Rattle.pnp_model.specs.Records.{Node, Core, Device, Activity, Phase, State, Job, Duty}
 use Rattle.pnp_labels.specs.Texts.{Text}
 
 abbrev pub with_core : Core → State → State
@@ -50,7 +50,7 @@ set_phase k phase s = record s { activities = changed_first (is_activity k) (wit
 abbrev pub end_activity : ℕ → State → State
 end_activity k s = record s { activities = without_first (is_activity k) s.activities }
 
-abbrev pub set_operation : Option Operation → State → State
+abbrev pub set_operation : Option Job → State → State
 set_operation operation s = record s { operation = operation }
 
 -- the world

@@ -13,8 +13,7 @@ use Rattle.pnp_model.specs.Removals.{begun_removal}
 use Rattle.pnp_model.specs.Surprises.{begun_surprise}
 use Rattle.pnp_model.specs.Finishes.{begun_finish}
 use Rattle.pnp_model.specs.Handles.{is_ready_device}
-use Rattle.pnp_model.specs.Records.{Node, Device, Driver, Task, State, Step, Operation, Activity, Settings, Choice, Duty}
-use Rattle.pnp_model.specs.Records.Operation.{Rebalancing, Removing, Surprising, Finishing}
+use Rattle.pnp_model.specs.Records.{Node, Device, Driver, Task, State, Step, Job, Activity, Settings, Choice, Duty}
 use Rattle.pnp_labels.specs.Texts.{Text}
 use Rattle.pnp_labels.specs.declared.states.DevState.{DevState}
 use Rattle.pnp_labels.specs.declared.states.Problem.{Problem}
@@ -140,13 +139,13 @@ start_step settings s k (Some node) = start_bare settings s node node.state
 
 -- Beginning an operation ------------------------------------------------------
 
-abbrev pub begin : State → OpKind → Node → Operation → Step
-begin s kind node operation =
-    record { label = Label.Begin kind node.path; state = set_operation (Some operation) (drop_task s) }
+abbrev pub begin : State → OpKind → Node → Job → Step
+begin s kind node job =
+    record { label = Label.Begin kind node.path; state = set_operation (Some job) (drop_task s) }
 
 abbrev pub rebalance_idle : State → Node → Option Activity → Step
 rebalance_idle s node (Some a) = skip (Begins OpKind.Rebalance) node.serial s
-rebalance_idle s node None = begin s OpKind.Rebalance node (Rebalancing (begun_rebalance s.core node))
+rebalance_idle s node None = begin s OpKind.Rebalance node (begun_rebalance s.core node)
 
 abbrev pub rebalance_task : State → Node → DevState → Step
 rebalance_task s node NotStarted = rebalance_idle s node (activity_at node.serial s.activities)
@@ -155,22 +154,22 @@ rebalance_task s node _ = skip (Begins OpKind.Rebalance) node.serial s
 -- is the path disabled?
 abbrev pub disable_task : State → Node → Bool → Step
 disable_task s node true = skip (Begins OpKind.Disable) node.serial s
-disable_task s node false = begin s OpKind.Disable node (Removing (begun_removal s.core OpKind.Disable node))
+disable_task s node false = begin s OpKind.Disable node (begun_removal s.core OpKind.Disable node)
 
 abbrev pub surprise_task : State → Node → DevState → Step
 surprise_task s node SurpriseRemoved = skip (Begins OpKind.Surprise) node.serial s
-surprise_task s node _ = begin s OpKind.Surprise node (Surprising (begun_surprise s.core node))
+surprise_task s node _ = begin s OpKind.Surprise node (begun_surprise s.core node)
 
 -- is it ready?
 abbrev pub finish_task : State → Node → Bool → Step
 finish_task s node false = skip (Begins OpKind.Finish) node.serial s
-finish_task s node true = begin s OpKind.Finish node (Finishing (begun_finish node))
+finish_task s node true = begin s OpKind.Finish node (begun_finish node)
 
 -- is its device in the world still? What is wanted is what that device requires now
 abbrev pub change_born : State → Node → Option Device → Step
 change_born s node None = skip (Begins OpKind.Change) node.serial s
 change_born s node (Some d) =
-    begin s OpKind.Change node (Rebalancing (begun_change s.core node (let_through node.parent d s)))
+    begin s OpKind.Change node (begun_change s.core node (let_through node.parent d s))
 
 abbrev pub change_task : State → Node → DevState → Step
 change_task s node Started = change_born s node (device_born node.born s.world)
@@ -180,7 +179,7 @@ abbrev pub begin_step : State → OpKind → ℕ → Option Node → Step
 begin_step s kind k None = skip (Begins kind) k s
 begin_step s OpKind.Rebalance k (Some node) = rebalance_task s node node.state
 begin_step s OpKind.Disable k (Some node) = disable_task s node (has_same node.path s.disabled)
-begin_step s OpKind.Eject k (Some node) = begin s OpKind.Eject node (Removing (begun_removal s.core OpKind.Eject node))
+begin_step s OpKind.Eject k (Some node) = begin s OpKind.Eject node (begun_removal s.core OpKind.Eject node)
 begin_step s OpKind.Surprise k (Some node) = surprise_task s node node.state
 begin_step s OpKind.Finish k (Some node) = finish_task s node (is_ready_device s.core s.handles node)
 begin_step s OpKind.Change k (Some node) = change_task s node node.state

@@ -1,19 +1,37 @@
--- The stages of a removal in the words of the machine.
+-- Kind and stages of a removal in the words of the machine.
+use Rattle.std.specs.Prelude.{Bool, true, false, Option}
+use Rattle.pnp_labels.specs.declared.label.OpKind.{OpKind}
 use Rattle.pnp_model.specs.Records as Records
-use Rattle.pnp_model.specs.Records.{Walk, RemovalStage}
+use Rattle.pnp_model.specs.Records.{Walk}
+use Rattle.operation_frame.specs.Walks.{walk_if}
 use Rattle.operation_frame.specs.declared.leaving.Finish.{Finish}
 use Rattle.operation_frame.specs.declared.leaving.Finish.TheVariants as finishes
 use Rattle.query_remove.specs.declared.frame.Stage.{Stage}
 use Rattle.query_remove.specs.declared.frame.Stage.TheVariants.{Next, Asking, TakingBack, Cancelling, Removing, Settling, Ending}
 
-abbrev pub stage_of : Stage → Walk → RemovalStage
-stage_of Next w = Records.RemovalStage.Next
-stage_of Asking w = Records.RemovalStage.Asking w
-stage_of TakingBack w = Records.RemovalStage.TakingBack w
-stage_of Cancelling w = Records.RemovalStage.Cancelling w
-stage_of Removing w = Records.RemovalStage.Removing w
-stage_of Settling w = Records.RemovalStage.Settling
-stage_of Ending w = Records.RemovalStage.Ending
+-- a device is ejected, or else disabled
+abbrev pub kind_by : Bool → OpKind
+kind_by true = OpKind.Eject
+kind_by false = OpKind.Disable
+
+abbrev pub stage_of : Stage → Records.Stage
+stage_of Next = Records.Stage.Next
+stage_of Asking = Records.Stage.Asking
+stage_of TakingBack = Records.Stage.TakingBack
+stage_of Cancelling = Records.Stage.Cancelling
+stage_of Removing = Records.Stage.Removing
+stage_of Settling = Records.Stage.Settling
+stage_of Ending = Records.Stage.Ending
+
+-- a request is on its way
+abbrev pub is_walking : Stage → Bool
+is_walking Next = false
+is_walking Settling = false
+is_walking Ending = false
+is_walking _ = true
+
+abbrev pub walk_at : Stage → Walk → Option Walk
+walk_at stage w = walk_if (is_walking stage) w
 
 -- how a device is finished
 abbrev pub finishing : Finish → Stage

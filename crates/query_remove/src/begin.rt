@@ -1,12 +1,14 @@
-ghost use Rattle.std.specs.Prelude.{◌≡◌, IfOk, IsSome};
+ghost use Rattle.std.specs.Prelude.{◌≡◌, IfOk, IsSome, true};
 ghost use Rattle.pnp_model.specs.Cores.{node_at};
 ghost use Rattle.pnp_model.specs.Keyed.{those};
+ghost use Rattle.pnp_model.specs.Machine.{is_in_order};
 ghost use Rattle.pnp_model.specs.Records.{Core};
-ghost use Rattle.pnp_model.specs.Removals.{is_queried_node, begun_with};
+ghost use Rattle.pnp_model.specs.Removals.{is_queried_node, begun_with, begun_removal};
 ghost use Rattle.devnode_tree.specs.Cores.{at_related};
-ghost use Rattle.query_remove.specs.Begins.{BegunFor};
+ghost use Rattle.operation_frame.specs.Steps.{BegunFor};
+ghost use Rattle.query_remove.specs.Stages.{kind_by};
 
-use crate::frame::{Removal, Stage};
+use crate::frame::{Removal, Stage, is_eject};
 use device_ids::WantOfMemory;
 use device_stack::Walk;
 use devnode_tree::{Node, Tree};
@@ -45,25 +47,25 @@ impl Removal {
         alloc: Global,
         tree: &Tree,
         relations: &Relations,
-        kind: OpKind,
+        ejects: bool,
         node: &Node,
         set: SerialSet,
     ) -> Result<Removal, WantOfMemory>
-        ensures { IfOk result (λ removal. (around : Core) → removal ≡ begun_with (at_related tree.now.nodes relations.now around) kind node.now set) }
+        ensures { IfOk result (λ removal. (around : Core) → removal ≡ begun_with (at_related tree.now.nodes relations.now around) (kind_by ejects) node.now set) }
     {
         let path = node.path.text(alloc)?;
         let ejecting = relations.ejected(alloc, &set)?;
         let todo = queried(alloc, tree, &set)?;
         let all = todo.all_where_none(alloc, &set)?;
         let mut removal = Removal {
-            kind,
+            ejects,
             target: node.serial,
             path,
             set,
             ejecting,
             todo,
             agreed: SerialQueue::new(alloc),
-            refuser: None,
+            refused: SerialQueue::new(alloc),
             stage: Stage::Ending,
             walk: Walk::begin(Minor::QueryRemove),
         };
@@ -72,7 +74,8 @@ impl Removal {
     }
 
     /// The removal of a device begins: its dependents and then it itself are to be asked, those that are Started or wait
-    /// to be finished. The line is that of the begin. Condition: the device is there. Cost: that of `Relations::leaving`.
+    /// to be finished. The line is that of the begin. Conditions: the device is there, and the kind is a disable or an
+    /// eject. Cost: that of `Relations::leaving`.
     pub fn begin(
         alloc: Global,
         tree: &Tree,
@@ -80,14 +83,16 @@ impl Removal {
         kind: OpKind,
         serial: u64,
     ) -> Result<(Label, Removal), WantOfMemory>
-        requires { IsSome (node_at serial tree.now.nodes) }
-        ensures { IfOk result (λ begun. BegunFor (node_at serial tree.now.nodes) tree.now.nodes relations.now kind begun.0 begun.1) }
+        requires there { IsSome (node_at serial tree.now.nodes) }
+        requires order { is_in_order kind ≡ true }
+        ensures { IfOk result (λ begun. BegunFor kind (λ c n. begun_removal c kind n) (node_at serial tree.now.nodes) tree.now.nodes relations.now begun.0 begun.1) }
     {
         let node = tree.at(serial);
         let path = node.path.text(alloc)?;
         let order = relations.leaving(alloc, tree, node.serial)?;
         let set = SerialSet::of(alloc, &order)?;
-        let removal = Removal::of_set(alloc, tree, relations, kind, node, set)?;
+        let ejects = is_eject(kind);
+        let removal = Removal::of_set(alloc, tree, relations, ejects, node, set)?;
         Ok((Label::Begin { op: kind, path }, removal))
     }
 }

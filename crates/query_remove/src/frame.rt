@@ -1,9 +1,11 @@
 ghost use Rattle.std.specs.Prelude.{◌≡◌, ◌==◌, slice_get, option_map};
 ghost use Rattle.pnp_model.specs.Tests.{has, is_eject};
-ghost use Rattle.pnp_model.specs.Machine.{removal_walk};
+ghost use Rattle.pnp_model.specs.Records.{Course, course_of};
 ghost use Rattle.pnp_model.specs.Removals.{finish_on, cancel_on};
-ghost use Rattle.query_remove.specs.Frames.{minor_that_waits, is_settling, Completed};
-ghost use Rattle.query_remove.specs.Stages.{finishing};
+ghost use Rattle.device_stack.specs.Waiting.{minor_of};
+ghost use Rattle.operation_frame.specs.Steps.{Completed};
+ghost use Rattle.query_remove.specs.Stages.{kind_by, finishing};
+ghost use Rattle.query_remove.specs.Parts.{is_settling};
 
 use device_ids::Text;
 use device_stack::{NoSuchRequest, Walk};
@@ -36,14 +38,15 @@ pub(crate) enum Stage {
 /// IRP_MN_REMOVE_DEVICE; that each step is one of the machine's is this project's own). A contract sees the record of
 /// where it stands.
 pub struct Removal {
-    pub(crate) kind: OpKind,
+    /// The device is ejected, and not disabled.
+    pub(crate) ejects: bool,
     pub(crate) target: u64,
     pub(crate) path: Text,
     pub(crate) set: SerialSet,
     pub(crate) ejecting: SerialSet,
     pub(crate) todo: SerialQueue,
     pub(crate) agreed: SerialQueue,
-    pub(crate) refuser: Option<u64>,
+    pub(crate) refused: SerialQueue,
     pub(crate) stage: Stage,
     pub(crate) walk: Walk,
 }
@@ -51,14 +54,14 @@ pub struct Removal {
 impl Drop for Removal {
     fn drop(self) {
         let Removal {
-            kind: _,
+            ejects: _,
             target: _,
             path: _,
             set: _,
             ejecting: _,
             todo: _,
             agreed: _,
-            refuser: _,
+            refused: _,
             stage: _,
             walk: _,
         } = self;
@@ -66,18 +69,20 @@ impl Drop for Removal {
 }
 
 impl Model for Removal {
-    ghost use Rattle.pnp_model.specs.Records.{Removal};
-    ghost use Rattle.query_remove.specs.Stages.{stage_of};
+    ghost use Rattle.std.specs.Prelude.{None, []};
+    ghost use Rattle.resource_reqs.specs.Spelling.Answer.{no_fit};
+    ghost use Rattle.pnp_model.specs.Records.{Job};
+    ghost use Rattle.query_remove.specs.Stages.{kind_by, stage_of, walk_at};
 
-    ghost Value = { Removal };
+    ghost Value = { Job };
 
-    ghost view = { λ r. record { kind = r.kind; target = r.target; path = r.path; set = r.set; ejecting = r.ejecting; todo = r.todo; agreed = r.agreed; refuser = r.refuser; stage = stage_of r.stage r.walk.walk } };
+    ghost view = { λ r. record { kind = kind_by r.ejects; target = r.target; path = r.path; wanted = None; set = r.set; ejecting = r.ejecting; told = []; todo = r.todo; agreed = r.agreed; refused = r.refused; behind = []; found = no_fit; stage = stage_of r.stage; walk = walk_at r.stage r.walk.walk } };
 }
 
 impl Removal {
     /// The request that waits for a driver; none exactly where none waits.
     pub fn waits(&self) -> Option<Minor>
-        ensures { result ≡ minor_that_waits self.now.stage }
+        ensures { result ≡ minor_of self.now.walk }
     {
         match self.stage {
             Stage::Next | Stage::Settling | Stage::Ending => None,
@@ -87,7 +92,8 @@ impl Removal {
 
     /// Whether the device that is next is settled with the next step: it leaves or remains.
     pub fn settles(&self) -> bool
-        ensures { result ≡ is_settling self.now.stage }
+        ensures settles { result ≡ is_settling self.now.stage }
+        ensures course { course_of self.now.kind ≡ Course.Removing }
     {
         matches!(&self.stage, Stage::Settling)
     }
@@ -112,7 +118,7 @@ impl Removal {
 
     /// The request that is on its way through the drivers of the device that is next; none exactly where none is.
     pub fn walk(&self) -> Option<&Walk>
-        ensures { option_map (λ w. w.now.walk) result ≡ removal_walk self.now.stage }
+        ensures { option_map (λ w. w.now.walk) result ≡ self.now.walk }
     {
         match self.stage {
             Stage::Next | Stage::Settling | Stage::Ending => None,
@@ -138,7 +144,7 @@ impl Removal {
     pub(crate) fn is_eject(&self) -> bool
         ensures { result ≡ is_eject self.now.kind }
     {
-        matches!(self.kind, OpKind::Eject)
+        self.ejects
     }
 
     /// The device that is next is finished: where it has drivers they are removed first, and where none is next the end is.
@@ -159,6 +165,24 @@ impl Removal {
         } else {
             self.stage = Stage::Ending;
         }
+    }
+}
+
+/// Whether a kind is that of an eject.
+pub(crate) fn is_eject(kind: OpKind) -> bool
+    ensures { result ≡ is_eject kind }
+{
+    matches!(kind, OpKind::Eject)
+}
+
+/// The kind of a removal by whether it ejects.
+pub(crate) fn kind_by(ejects: bool) -> OpKind
+    ensures { result ≡ kind_by ejects }
+{
+    if ejects {
+        OpKind::Eject
+    } else {
+        OpKind::Disable
     }
 }
 

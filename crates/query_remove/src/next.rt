@@ -1,25 +1,23 @@
-ghost use Rattle.std.specs.Prelude.{◌≡◌, List, IfOk, OnErr, IsSome, true, false};
+ghost use Rattle.std.specs.Prelude.{◌≡◌, ◌∷◌, List, IfOk, OnErr, IsSome, false};
 ghost use Rattle.pnp_model.specs.Cores.{node_at};
-ghost use Rattle.pnp_model.specs.Machine.{removal_walk, is_waiting};
-ghost use Rattle.pnp_model.specs.Removals.{ask_on, end_ask, take_back, cancel_step};
-ghost use Rattle.pnp_model.specs.Frames.{first_node};
+ghost use Rattle.pnp_model.specs.Machine.{is_waiting};
+ghost use Rattle.pnp_model.specs.Removals.{ask_on, cancel_on, answers};
+ghost use Rattle.pnp_model.specs.Frames.{first_node, rest};
 ghost use Rattle.pnp_model.specs.Records as Records;
-ghost use Rattle.trial_journal.specs.ByKind as ByKind;
+ghost use Rattle.pnp_model.specs.Records.{Core, Course};
+ghost use Rattle.devnode_tree.specs.Cores.{at_nodes};
 ghost use Rattle.device_holdings.specs.Mirrors.{IsMirrored, KeepsMirror};
-ghost use Rattle.pnp_labels.specs.declared.label.RemoveStep.TheVariants as steps;
-ghost use Rattle.query_remove.specs.Steps.{Moved, Removes, HasNext, SettlesStripped};
-ghost use Rattle.query_remove.specs.Parts.{end_move, is_walking};
-ghost use Rattle.operation_frame.specs.Nodes.{PathIs};
 ghost use Rattle.operation_frame.specs.Queues.{all_after};
-ghost use Rattle.operation_frame.specs.Steps.{MovesFor, MovesRelated};
+ghost use Rattle.operation_frame.specs.Steps.{JobSteps, HasNext, StandsAfter};
+ghost use Rattle.query_remove.specs.Parts.{SettlesStripped};
 
 use crate::frame::{Removal, Stage};
 use device_ids::WantOfMemory;
 use device_stack::Walk;
 use devnode_tree::{Handles, Tree};
 use driver_rack::Drivers;
-use operation_frame::{Asked, SerialQueue, Walked, end_walk, pass_on, strip};
-use pnp_labels::{Label, Minor, RemoveStep};
+use operation_frame::{Asked, SerialQueue, Walked, end_request, pass_on};
+use pnp_labels::{Minor, RemoveStep};
 use relations::Relations;
 use std::alloc::Global;
 use trial_journal::Arbiters;
@@ -37,67 +35,83 @@ impl Removal {
     }
 
     /// The device that is next agreed; after the last one all are finished.
-    pub(crate) fn agree(
-        &mut self,
-        alloc: Global,
-        asked: Asked,
-        tree: &mut Tree,
-    ) -> Result<Label, WantOfMemory>
-        requires path { PathIs (node_at asked.serial tree.old.nodes) asked.path }
-        ensures agreed { IfOk result (λ label. MovesFor Moved (node_at asked.serial tree.old.nodes) (λ c n. end_ask c self.old n false) tree.old.nodes (steps.Did label) tree.new.nodes self.new) }
-        ensures next { tree.new.next ≡ tree.old.next }
-        ensures mirrors { (arbiters : ByKind.Arbiters) → KeepsMirror tree.old.nodes arbiters tree.new.nodes arbiters }
+    fn agree(&mut self, alloc: Global, tree: &Tree, serial: u64) -> Result<(), WantOfMemory>
+        ensures agreed { IfOk result (λ done. self.new ≡ ask_on tree.now.nodes (record self.old { agreed = serial ∷ self.old.agreed }) (rest self.old.todo)) }
         ensures removal { OnErr result (self.new ≡ self.old) }
-        ensures tree { OnErr result (tree.new ≡ tree.old) }
     {
         let all = self.todo.all_after_next(alloc, &self.set)?;
-        self.agreed.push_front(asked.serial)?;
+        self.agreed.push_front(serial)?;
         self.todo.drop_first();
         self.ask_next(tree, all);
-        Ok(end_walk(Minor::QueryRemove, false, asked.path, asked.serial, tree))
+        Ok(())
     }
 
-    /// The device that is next refused: it is told that it stays.
-    fn refuse(&mut self, asked: Asked, tree: &mut Tree) -> Label
-        requires path { PathIs (node_at asked.serial tree.old.nodes) asked.path }
-        ensures refused { MovesFor Moved (node_at asked.serial tree.old.nodes) (λ c n. end_ask c self.old n true) tree.old.nodes (steps.Did result) tree.new.nodes self.new }
-        ensures next { tree.new.next ≡ tree.old.next }
-        ensures mirrors { (arbiters : ByKind.Arbiters) → KeepsMirror tree.old.nodes arbiters tree.new.nodes arbiters }
+    /// The device that is next has answered: where it refused it is told that it stays.
+    fn answered(
+        &mut self,
+        alloc: Global,
+        tree: &Tree,
+        serial: u64,
+        refused: bool,
+    ) -> Result<(), WantOfMemory>
+        ensures answered { IfOk result (λ done. (around : Core) (n : Records.Node) → n.serial ≡ serial → self.new ≡ answers (at_nodes tree.now.nodes around) self.old n refused) }
+        ensures removal { OnErr result (self.new ≡ self.old) }
     {
-        self.refuser = Some(asked.serial);
+        if !refused {
+            return self.agree(alloc, tree, serial);
+        }
+        self.refused.push_front(serial)?;
         self.stage = Stage::TakingBack;
         self.walk = Walk::begin(Minor::CancelRemove);
-        end_walk(Minor::QueryRemove, true, asked.path, asked.serial, tree)
+        Ok(())
     }
 
-    /// The device that refused was told that it stays: then all that agreed are, the last one first.
-    fn stays(&mut self, alloc: Global, asked: Asked, tree: &mut Tree) -> Result<Label, WantOfMemory>
-        requires path { PathIs (node_at asked.serial tree.old.nodes) asked.path }
-        ensures taken { IfOk result (λ label. (w : Records.Walk) → MovesFor Moved (node_at asked.serial tree.old.nodes) (λ c n. take_back c self.old n w true) tree.old.nodes (steps.Did label) tree.new.nodes self.new) }
-        ensures next { tree.new.next ≡ tree.old.next }
-        ensures mirrors { (arbiters : ByKind.Arbiters) → KeepsMirror tree.old.nodes arbiters tree.new.nodes arbiters }
+    /// All that agreed are told that they stay, the last one first.
+    fn stay(&mut self, alloc: Global) -> Result<(), WantOfMemory>
+        ensures told { IfOk result (λ done. self.new ≡ cancel_on self.old self.old.agreed) }
         ensures removal { OnErr result (self.new ≡ self.old) }
-        ensures tree { OnErr result (tree.new ≡ tree.old) }
     {
         self.todo = self.agreed.copy(alloc)?;
         self.cancel_next();
-        Ok(end_walk(Minor::CancelRemove, false, asked.path, asked.serial, tree))
+        Ok(())
     }
 
     /// A device that agreed was told that it stays.
-    fn cancel(&mut self, asked: Asked, tree: &mut Tree) -> Label
-        requires path { PathIs (node_at asked.serial tree.old.nodes) asked.path }
-        ensures cancelled { (w : Records.Walk) → MovesFor Moved (node_at asked.serial tree.old.nodes) (λ c n. cancel_step c self.old n w true) tree.old.nodes (steps.Did result) tree.new.nodes self.new }
-        ensures next { tree.new.next ≡ tree.old.next }
-        ensures mirrors { (arbiters : ByKind.Arbiters) → KeepsMirror tree.old.nodes arbiters tree.new.nodes arbiters }
+    fn cancel(&mut self)
+        ensures { self.new ≡ cancel_on self.old (rest self.old.todo) }
     {
         self.todo.drop_first();
         self.cancel_next();
-        end_walk(Minor::CancelRemove, false, asked.path, asked.serial, tree)
+    }
+
+    /// The request of the device that is next has ended: how the removal stands then.
+    fn after_end(
+        &mut self,
+        alloc: Global,
+        tree: &Tree,
+        serial: u64,
+        refused: bool,
+    ) -> Result<(), WantOfMemory>
+        requires walking { IsSome self.old.walk }
+        ensures stands { IfOk result (λ done. StandsAfter Course.Removing (node_at serial tree.now.nodes) tree.now.nodes self.old false refused self.new) }
+        ensures removal { OnErr result (self.new ≡ self.old) }
+    {
+        match self.stage {
+            Stage::Asking => self.answered(alloc, tree, serial, refused),
+            Stage::TakingBack => self.stay(alloc),
+            Stage::Cancelling => {
+                self.cancel();
+                Ok(())
+            }
+            _ => {
+                self.stage = Stage::Settling;
+                Ok(())
+            }
+        }
     }
 
     /// A step of the request of the device that is next.
-    fn walk_on<R: Drivers>(
+    pub(crate) fn walk_on<R: Drivers>(
         &mut self,
         alloc: Global,
         tree: &mut Tree,
@@ -106,10 +120,10 @@ impl Removal {
         arbiters: &mut Arbiters,
     ) -> Result<RemoveStep, WantOfMemory>
         requires there { IsSome (first_node tree.old.nodes self.old.todo) }
-        requires walking { is_walking self.old.stage ≡ true }
-        requires goes { is_waiting (removal_walk self.old.stage) ≡ false }
+        requires walking { IsSome self.old.walk }
+        requires goes { is_waiting self.old.walk ≡ false }
         requires mirrored { IsMirrored tree.old.nodes arbiters.old }
-        ensures removes { IfOk result (λ step. (handles : List Records.Handle) → Removes tree.old.nodes relations.old (R.rows rack.old) handles self.old step tree.new.nodes relations.new (R.rows rack.new) self.new) }
+        ensures removes { IfOk result (λ step. (handles : List Records.Handle) → JobSteps Course.Removing tree.old.nodes relations.old (R.rows rack.old) false handles self.old step tree.new.nodes relations.new (R.rows rack.new) self.new) }
         ensures removal { OnErr result (self.new ≡ self.old) }
         ensures tree { OnErr result (tree.new ≡ tree.old) }
         ensures relations { OnErr result (relations.new ≡ relations.old) }
@@ -121,50 +135,14 @@ impl Removal {
         let mut walk = self.walk;
         match pass_on(alloc, serial, &mut walk, tree, rack)? {
             Walked::Ended { path, refused } => {
-                let asked = Asked { serial, path };
-                let label = self.end_request(alloc, tree, relations, arbiters, asked, refused)?;
-                Ok(RemoveStep::Did(label))
+                self.after_end(alloc, tree, serial, refused)?;
+                let device = Asked { serial, path };
+                let minor = walk.minor();
+                Ok(RemoveStep::Did(end_request(minor, refused, device, tree, relations, arbiters)))
             }
             Walked::On(label) => {
                 self.walk = walk;
                 Ok(RemoveStep::Did(label))
-            }
-        }
-    }
-
-    /// The request of the device that is next has ended.
-    fn end_request(
-        &mut self,
-        alloc: Global,
-        tree: &mut Tree,
-        relations: &mut Relations,
-        arbiters: &mut Arbiters,
-        asked: Asked,
-        refused: bool,
-    ) -> Result<Label, WantOfMemory>
-        requires path { PathIs (node_at asked.serial tree.old.nodes) asked.path }
-        requires walking { is_walking self.old.stage ≡ true }
-        requires mirrored { IsMirrored tree.old.nodes arbiters.old }
-        ensures ended { IfOk result (λ label. MovesRelated Moved (node_at asked.serial tree.old.nodes) (end_move self.old self.old.stage refused) tree.old.nodes relations.old (steps.Did label) tree.new.nodes relations.new self.new) }
-        ensures next { tree.new.next ≡ tree.old.next }
-        ensures mirrors { KeepsMirror tree.old.nodes arbiters.old tree.new.nodes arbiters.new }
-        ensures removal { OnErr result (self.new ≡ self.old) }
-        ensures tree { OnErr result (tree.new ≡ tree.old) }
-        ensures relations { OnErr result (relations.new ≡ relations.old) }
-    {
-        match self.stage {
-            Stage::Asking => {
-                if refused {
-                    Ok(self.refuse(asked, tree))
-                } else {
-                    self.agree(alloc, asked, tree)
-                }
-            }
-            Stage::TakingBack => self.stays(alloc, asked, tree),
-            Stage::Cancelling => Ok(self.cancel(asked, tree)),
-            _ => {
-                self.stage = Stage::Settling;
-                Ok(strip(asked.path, asked.serial, tree, relations, arbiters))
             }
         }
     }
@@ -187,9 +165,9 @@ impl Removal {
     ) -> Result<RemoveStep, WantOfMemory>
         requires there { HasNext tree.old.nodes self.old self.old.stage }
         requires settles { SettlesStripped tree.old.nodes self.old self.old.stage }
-        requires goes { is_waiting (removal_walk self.old.stage) ≡ false }
+        requires goes { is_waiting self.old.walk ≡ false }
         requires mirrored { IsMirrored tree.old.nodes arbiters.old }
-        ensures removes { IfOk result (λ step. Removes tree.old.nodes relations.old (R.rows rack.old) handles.now self.old step tree.new.nodes relations.new (R.rows rack.new) self.new) }
+        ensures removes { IfOk result (λ step. JobSteps Course.Removing tree.old.nodes relations.old (R.rows rack.old) false handles.now self.old step tree.new.nodes relations.new (R.rows rack.new) self.new) }
         ensures next { tree.new.next ≡ tree.old.next }
         ensures mirrors { KeepsMirror tree.old.nodes arbiters.old tree.new.nodes arbiters.new }
         ensures removal { OnErr result (self.new ≡ self.old) }
@@ -200,7 +178,7 @@ impl Removal {
         match self.stage {
             Stage::Ending => Ok(RemoveStep::Over(self.end_line(alloc, tree)?)),
             Stage::Settling => self.settle(alloc, tree),
-            Stage::Next => Ok(RemoveStep::Did(self.query(alloc, tree, rack, handles)?)),
+            Stage::Next => self.query(alloc, tree, relations, rack, arbiters, handles),
             _ => self.walk_on(alloc, tree, relations, rack, arbiters),
         }
     }

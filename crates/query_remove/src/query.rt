@@ -1,21 +1,21 @@
-ghost use Rattle.std.specs.Prelude.{◌≡◌, List, IfOk, OnErr, IsSome, true};
+ghost use Rattle.std.specs.Prelude.{◌≡◌, IfOk, OnErr, IsSome, None, false};
 ghost use Rattle.pnp_model.specs.Frames.{first_node};
-ghost use Rattle.pnp_model.specs.Removals.{refuses_unasked, query, queried};
+ghost use Rattle.pnp_model.specs.Removals.{refuses_unasked, declines, queried};
 ghost use Rattle.pnp_model.specs.Records as Records;
-ghost use Rattle.trial_journal.specs.ByKind as ByKind;
-ghost use Rattle.device_holdings.specs.Mirrors.{KeepsMirror};
+ghost use Rattle.pnp_model.specs.Records.{Course};
+ghost use Rattle.device_holdings.specs.Mirrors.{IsMirrored, KeepsMirror};
 ghost use Rattle.pnp_labels.specs.declared.label.RemoveStep.TheVariants as steps;
-ghost use Rattle.query_remove.specs.Steps.{Moved, Removes};
-ghost use Rattle.operation_frame.specs.Steps.{MovesFor};
+ghost use Rattle.operation_frame.specs.Steps.{Moved, MovesFor, JobSteps};
 
 use crate::frame::{Removal, Stage};
 use device_ids::WantOfMemory;
 use device_stack::Walk;
 use devnode_tree::{Handles, Node, Tree};
 use driver_rack::Drivers;
-use operation_frame::{Asked, Walked, pass_on};
-use pnp_labels::{DevState, Label, Minor};
+use pnp_labels::{DevState, Label, Minor, RemoveStep};
+use relations::Relations;
 use std::alloc::Global;
+use trial_journal::Arbiters;
 
 /// Whether a device refuses unasked: a handle to it is open, or it waits to be finished.
 fn refuses_unasked(handles: &Handles, node: &Node) -> bool
@@ -27,67 +27,58 @@ fn refuses_unasked(handles: &Handles, node: &Node) -> bool
 impl Removal {
     /// The device that is next refuses unasked. Nothing is taken back from it, and all that agreed are told that they
     /// stay, the last one first.
-    fn refuse_unasked(&mut self, alloc: Global, tree: &Tree) -> Result<Label, WantOfMemory>
+    fn decline(&mut self, alloc: Global, tree: &Tree) -> Result<Label, WantOfMemory>
         requires there { IsSome (first_node tree.now.nodes self.old.todo) }
-        ensures refused { IfOk result (λ label. MovesFor Moved (first_node tree.now.nodes self.old.todo) (λ c n. query c self.old n true) tree.now.nodes (steps.Did label) tree.now.nodes self.new) }
+        ensures declined { IfOk result (λ label. MovesFor Moved (first_node tree.now.nodes self.old.todo) (λ c n. declines c self.old n) tree.now.nodes (steps.Did label) tree.now.nodes self.new) }
         ensures removal { OnErr result (self.new ≡ self.old) }
     {
         let node = tree.at(self.todo.first());
         let path = node.path.text(alloc)?;
-        self.todo = self.agreed.copy(alloc)?;
-        self.refuser = Some(node.serial);
+        let told = self.agreed.copy(alloc)?;
+        self.refused.push_front(node.serial)?;
+        self.todo = told;
         self.cancel_next();
         Ok(Label::Handles { path })
     }
 
-    /// The device that is next is asked, its first driver at once.
-    fn begin_query<R: Drivers>(
-        &mut self,
-        alloc: Global,
-        tree: &mut Tree,
-        rack: &mut R,
-    ) -> Result<Label, WantOfMemory>
-        requires there { IsSome (first_node tree.old.nodes self.old.todo) }
-        ensures asked { IfOk result (λ label. (relations : List Records.Relation) (handles : List Records.Handle) → Removes tree.old.nodes relations (R.rows rack.old) handles (queried self.old) (steps.Did label) tree.new.nodes relations (R.rows rack.new) self.new) }
-        ensures removal { OnErr result (self.new ≡ self.old) }
-        ensures tree { OnErr result (tree.new ≡ tree.old) }
-        ensures rack { OnErr result (R.rows rack.new ≡ R.rows rack.old) }
-        ensures next { tree.new.next ≡ tree.old.next }
-        ensures mirrors { (arbiters : ByKind.Arbiters) → KeepsMirror tree.old.nodes arbiters tree.new.nodes arbiters }
+    /// The query of the device that is next begins.
+    fn begin_query(&mut self)
+        ensures { self.new ≡ queried self.old }
     {
-        let serial = self.todo.first();
-        let mut walk = Walk::begin(Minor::QueryRemove);
-        match pass_on(alloc, serial, &mut walk, tree, rack)? {
-            Walked::Ended { path, .. } => self.agree(alloc, Asked { serial, path }, tree),
-            Walked::On(label) => {
-                self.stage = Stage::Asking;
-                self.walk = walk;
-                Ok(label)
-            }
-        }
+        self.stage = Stage::Asking;
+        self.walk = Walk::begin(Minor::QueryRemove);
     }
 
-    /// The device that is next is asked, or refuses unasked.
+    /// The device that is next is asked, its first driver at once, or refuses unasked.
     pub(crate) fn query<R: Drivers>(
         &mut self,
         alloc: Global,
         tree: &mut Tree,
+        relations: &mut Relations,
         rack: &mut R,
+        arbiters: &mut Arbiters,
         handles: &Handles,
-    ) -> Result<Label, WantOfMemory>
+    ) -> Result<RemoveStep, WantOfMemory>
         requires there { IsSome (first_node tree.old.nodes self.old.todo) }
-        requires next { self.old.stage ≡ Records.RemovalStage.Next }
-        ensures removes { IfOk result (λ label. (relations : List Records.Relation) → Removes tree.old.nodes relations (R.rows rack.old) handles.now self.old (steps.Did label) tree.new.nodes relations (R.rows rack.new) self.new) }
+        requires next { self.old.stage ≡ Records.Stage.Next }
+        requires none { self.old.walk ≡ None }
+        requires mirrored { IsMirrored tree.old.nodes arbiters.old }
+        ensures removes { IfOk result (λ step. JobSteps Course.Removing tree.old.nodes relations.old (R.rows rack.old) false handles.now self.old step tree.new.nodes relations.new (R.rows rack.new) self.new) }
         ensures removal { OnErr result (self.new ≡ self.old) }
         ensures tree { OnErr result (tree.new ≡ tree.old) }
+        ensures relations { OnErr result (relations.new ≡ relations.old) }
         ensures rack { OnErr result (R.rows rack.new ≡ R.rows rack.old) }
         ensures next { tree.new.next ≡ tree.old.next }
-        ensures mirrors { (arbiters : ByKind.Arbiters) → KeepsMirror tree.old.nodes arbiters tree.new.nodes arbiters }
+        ensures mirrors { KeepsMirror tree.old.nodes arbiters.old tree.new.nodes arbiters.new }
     {
         if refuses_unasked(handles, tree.at(self.todo.first())) {
-            self.refuse_unasked(alloc, tree)
-        } else {
-            self.begin_query(alloc, tree, rack)
+            return Ok(RemoveStep::Did(self.decline(alloc, tree)?));
         }
+        self.begin_query();
+        let asked = self.walk_on(alloc, tree, relations, rack, arbiters);
+        if asked.is_err() {
+            self.stage = Stage::Next;
+        }
+        asked
     }
 }

@@ -1,13 +1,15 @@
 ghost use Rattle.std.specs.Prelude.{◌≡◌, ◌&&◌, IfOk, OnErr, IsSome, IfSome};
 ghost use Rattle.pnp_model.specs.Frames.{first_node, rest};
-ghost use Rattle.pnp_model.specs.Removals.{finish_on};
+ghost use Rattle.pnp_model.specs.Records.{Core};
+ghost use Rattle.pnp_model.specs.Removals.{finish_on, end_of};
 ghost use Rattle.pnp_model.specs.Tests.{has, is_eject};
 ghost use Rattle.trial_journal.specs.ByKind as ByKind;
 ghost use Rattle.device_holdings.specs.Mirrors.{KeepsMirror};
-ghost use Rattle.query_remove.specs.Parts.{problem_if, SettlesFor, end_in};
+ghost use Rattle.devnode_tree.specs.Cores.{at_nodes};
+ghost use Rattle.query_remove.specs.Parts.{problem_if, SettlesFor};
 ghost use Rattle.operation_frame.specs.Nodes.{IsStripped};
 
-use crate::frame::Removal;
+use crate::frame::{Removal, kind_by};
 use device_ids::{Text, WantOfMemory};
 use devnode_tree::Tree;
 use operation_frame::{Settled, leave, remain};
@@ -89,12 +91,12 @@ impl Removal {
 
     /// How the removal ended.
     fn end(&self, alloc: Global, tree: &Tree) -> Result<OpEnd, WantOfMemory>
-        ensures { IfOk result (λ end. end ≡ end_in tree.now.nodes self.now.refuser) }
+        ensures { IfOk result (λ end. (around : Core) → end ≡ end_of (at_nodes tree.now.nodes around) self.now.refused) }
     {
-        let Some(refuser) = self.refuser else {
+        let Some(refused) = self.refused.get(0) else {
             return Ok(OpEnd::Done);
         };
-        let path = match tree.node(refuser) {
+        let path = match tree.node(refused) {
             Some(node) => node.path.text(alloc)?,
             None => Text::make(alloc, b"")?,
         };
@@ -103,12 +105,12 @@ impl Removal {
 
     /// The line of the end.
     pub(crate) fn end_line(&self, alloc: Global, tree: &Tree) -> Result<Label, WantOfMemory>
-        ensures { IfOk result (λ label. label ≡ Label.End self.now.kind self.now.path (end_in tree.now.nodes self.now.refuser)) }
+        ensures { IfOk result (λ label. (around : Core) → label ≡ Label.End self.now.kind self.now.path (end_of (at_nodes tree.now.nodes around) self.now.refused)) }
     {
         let path = self.path.copy(alloc)?;
         let result = self.end(alloc, tree)?;
         Ok(Label::End {
-            op: self.kind,
+            op: kind_by(self.ejects),
             path,
             result,
         })

@@ -253,9 +253,6 @@ module _ (nodes : List Node) (seen keys : List ℕ) (k : ℕ) (so_far : IsCollec
           by_other false false c e = refl
           by_other true b c e = absurd (cc)
 
-pub collected_none : (nodes : List Node) → IsCollected nodes [] []
-collected_none nodes = record { order = tt; members = λ k. refl }
-
 -- where all nodes were seen it has all that are asked
 pub all_collected : (t : Tree) → IsTree t → (seen keys : List ℕ) → seen ≡ map (λ (p : Placed). p.node.serial) (print_order t.nodes) → IsCollected t.nodes seen keys → keys ≡ serials_of (those is_asked t.nodes)
 all_collected t tree seen keys all so_far =

@@ -2,6 +2,7 @@ ghost use Rattle.std.specs.Prelude.{◌≡◌, Some, None, IfOk, IsSome};
 ghost use Rattle.pnp_model.specs.Cores.{node_at};
 ghost use Rattle.pnp_model.specs.Records.{Core};
 ghost use Rattle.pnp_model.specs.Rebalances.{begun_with};
+ghost use Rattle.pnp_laws.specs.Kept.{kind_by};
 ghost use Rattle.devnode_tree.specs.Cores.{at_nodes};
 ghost use Rattle.devnode_tree.specs.Trees.{IsTree};
 ghost use Rattle.rebalance.specs.Begins.{BegunFor};
@@ -54,7 +55,7 @@ impl Rebalance {
         wanted: Option<Reqs>,
     ) -> Result<Rebalance, WantOfMemory>
         requires { IsTree tree.now }
-        ensures { IfOk result (λ rebalance. (around : Core) → rebalance ≡ begun_with (at_nodes tree.now.nodes around) node.now wanted) }
+        ensures { IfOk result (λ rebalance. (around : Core) → rebalance ≡ begun_with (at_nodes tree.now.nodes around) (kind_by wanted) node.now wanted) }
     {
         let path = node.path.text(alloc)?;
         let todo = asked(alloc, tree)?;

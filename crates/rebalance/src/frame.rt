@@ -1,10 +1,12 @@
-ghost use Rattle.std.specs.Prelude.{◌≡◌, ℕ, slice_get, option_map, OnOk, OnErr};
-ghost use Rattle.pnp_model.specs.Machine.{rebalance_walk};
+ghost use Rattle.std.specs.Prelude.{◌≡◌, [], Some, None, slice_get, option_map, OnOk, OnErr};
 ghost use Rattle.pnp_model.specs.Frames.{rest};
+ghost use Rattle.pnp_model.specs.Jobs.{begins, stands, each_gets};
 ghost use Rattle.pnp_model.specs.Records as Records;
-ghost use Rattle.pnp_model.specs.Rebalances.{ask_on, cancel_on, cancelled, stop_on, restart_from, restart_on, has_refused, kind_of};
-ghost use Rattle.pnp_model.specs.Walks.{walk_of};
-ghost use Rattle.rebalance.specs.Frames.{minor_that_waits, Completed};
+ghost use Rattle.pnp_model.specs.Records.{Course};
+ghost use Rattle.pnp_model.specs.Rebalances.{ask_on, cancel_on, cancelled, stop_on, restart_on, has_refused};
+ghost use Rattle.pnp_laws.specs.Kept.{asked_in};
+ghost use Rattle.device_stack.specs.Waiting.{minor_of};
+ghost use Rattle.operation_frame.specs.Steps.{Completed};
 ghost use Rattle.rebalance.specs.Stages.{stage_of};
 
 use crate::above::pass_over;
@@ -77,19 +79,23 @@ impl Drop for Rebalance {
 }
 
 impl Model for Rebalance {
+    ghost use Rattle.std.specs.Prelude.{[]};
     ghost use Rattle.assign_search.specs.Fixed.{answer_of};
-    ghost use Rattle.pnp_model.specs.Records.{Rebalance};
-    ghost use Rattle.rebalance.specs.Stages.{stage_of};
+    ghost use Rattle.pnp_model.specs.Records.{Course, Job};
+    ghost use Rattle.pnp_laws.specs.Kept.{IsOwn, asked_in, kind_by};
+    ghost use Rattle.rebalance.specs.Stages.{stage_of, walk_at};
 
-    ghost Value = { Rebalance };
+    ghost Value = { Job };
 
-    ghost view = { λ r. record { target = r.target; path = r.path; wanted = r.wanted; todo = r.todo; agreed = r.agreed; refused = r.refused; found = answer_of r.found; stage = stage_of r.stage r.walk.walk } };
+    ghost view = { λ r. record { kind = kind_by r.wanted; target = r.target; path = r.path; wanted = r.wanted; set = []; ejecting = []; told = []; todo = r.todo; agreed = r.agreed; refused = r.refused; behind = []; found = answer_of r.found; stage = stage_of r.stage; walk = walk_at r.stage r.walk.walk } };
+
+    ghost invariant = { λ r. IsOwn (walk_at r.stage r.walk.walk) (asked_in Course.Rebalancing (stage_of r.stage)) };
 }
 
 impl Rebalance {
     /// The request that waits for a driver; none exactly where none waits.
     pub fn waits(&self) -> Option<Minor>
-        ensures { result ≡ minor_that_waits self.now.stage }
+        ensures { result ≡ minor_of self.now.walk }
     {
         match &self.stage {
             Stage::Asking
@@ -118,7 +124,7 @@ impl Rebalance {
 
     /// The request that is on its way through the drivers of the device that is next; none exactly where none is.
     pub fn walk(&self) -> Option<&Walk>
-        ensures { option_map (λ w. w.now.walk) result ≡ rebalance_walk self.now.stage }
+        ensures { option_map (λ w. w.now.walk) result ≡ self.now.walk }
     {
         match &self.stage {
             Stage::Asking
@@ -146,7 +152,7 @@ impl Rebalance {
 
     /// What it is: a rebalance, or a change.
     pub(crate) fn kind(&self) -> OpKind
-        ensures { result ≡ kind_of self.now.wanted }
+        ensures { result ≡ self.now.kind }
     {
         match &self.wanted {
             Some(_) => OpKind::Change,
@@ -164,12 +170,34 @@ impl Rebalance {
         }
     }
 
-    /// The device that is next is asked.
-    fn ask_first(&mut self)
-        ensures { self.new ≡ record self.old { stage = Records.RebalanceStage.Asking (walk_of Minor.QueryStop) } }
+    /// The device that is next gets the request of a stage.
+    pub(crate) fn begin_request(&mut self, stage: Stage, minor: Minor)
+        requires { asked_in Course.Rebalancing (stage_of stage) ≡ Some minor }
+        ensures { self.new ≡ begins self.old self.old.todo (stage_of stage) minor }
     {
-        self.stage = Stage::Asking;
-        self.walk = Walk::begin(Minor::QueryStop);
+        self.stage = stage;
+        self.walk = Walk::begin(minor);
+    }
+
+    /// No request is on its way.
+    pub(crate) fn stand(&mut self, stage: Stage)
+        requires { asked_in Course.Rebalancing (stage_of stage) ≡ None }
+        ensures { self.new ≡ stands self.old self.old.todo (stage_of stage) }
+    {
+        self.stage = stage;
+    }
+
+    /// The device that is next gets the request of a stage, and where none is next it stands in another.
+    fn give_each(&mut self, stage: Stage, minor: Minor, over: Stage)
+        requires asked { asked_in Course.Rebalancing (stage_of stage) ≡ Some minor }
+        requires over { asked_in Course.Rebalancing (stage_of over) ≡ None }
+        ensures { self.new ≡ each_gets minor (stage_of stage) self.old self.old.todo (stands self.old [] (stage_of over)) }
+    {
+        if self.todo.get(0).is_some() {
+            self.begin_request(stage, minor);
+        } else {
+            self.stand(over);
+        }
     }
 
     /// These are asked from now on. Where there are none, resources are searched for; but where the target of a change has
@@ -178,16 +206,11 @@ impl Rebalance {
         ensures asks { OnOk result (self.new ≡ ask_on self.old todo) }
         ensures err { OnErr result (self.new ≡ self.old) }
     {
-        let is_over = todo.get(0).is_none();
-        if is_over && self.has_refused() {
+        if todo.get(0).is_none() && self.has_refused() {
             return self.cancel_agreed(alloc);
         }
         self.todo = todo;
-        if is_over {
-            self.stage = Stage::Searching;
-        } else {
-            self.ask_first();
-        }
+        self.give_each(Stage::Asking, Minor::QueryStop, Stage::Searching);
         Ok(())
     }
 
@@ -200,14 +223,14 @@ impl Rebalance {
             return self.ask_all(alloc, SerialQueue::new(alloc));
         }
         self.todo.drop_first();
-        self.ask_first();
+        self.begin_request(Stage::Asking, Minor::QueryStop);
         Ok(())
     }
 
     /// What is next when nobody is left to be told that it goes on: the target of a rebalance gets a problem, and a change
     /// ends.
     fn cancelled(&self) -> Stage
-        ensures { (w : Records.Walk) → stage_of result w ≡ cancelled self.now.wanted }
+        ensures { stage_of result ≡ cancelled self.now.wanted }
     {
         match &self.wanted {
             Some(_) => Stage::Ending,
@@ -220,12 +243,8 @@ impl Rebalance {
     pub(crate) fn cancel_next(&mut self)
         ensures { self.new ≡ cancel_on self.old self.old.todo }
     {
-        if self.todo.get(0).is_some() {
-            self.stage = Stage::Cancelling;
-            self.walk = Walk::begin(Minor::CancelStop);
-        } else {
-            self.stage = self.cancelled();
-        }
+        let over = self.cancelled();
+        self.give_each(Stage::Cancelling, Minor::CancelStop, over);
     }
 
     /// All that agreed are told that they go on, the least serial first.
@@ -242,24 +261,14 @@ impl Rebalance {
     pub(crate) fn stop_next(&mut self)
         ensures { self.new ≡ stop_on self.old self.old.todo }
     {
-        if self.todo.get(0).is_some() {
-            self.stage = Stage::Stopping;
-            self.walk = Walk::begin(Minor::Stop);
-        } else {
-            self.stage = Stage::Committing;
-        }
+        self.give_each(Stage::Stopping, Minor::Stop, Stage::Committing);
     }
 
     /// The device that is next is started again, and where none is next the end is.
     pub(crate) fn restart_first(&mut self)
-        ensures { self.new ≡ restart_from self.old self.old.todo }
+        ensures { self.new ≡ each_gets Minor.Start Records.Stage.Restarting self.old self.old.todo (stands self.old [] Records.Stage.Ending) }
     {
-        if self.todo.get(0).is_some() {
-            self.stage = Stage::Restarting;
-            self.walk = Walk::begin(Minor::Start);
-        } else {
-            self.stage = Stage::Ending;
-        }
+        self.give_each(Stage::Restarting, Minor::Start, Stage::Ending);
     }
 
     /// The next device above which all are Started is started again, and where none is next the end is.

@@ -1,20 +1,19 @@
-ghost use Rattle.std.specs.Prelude.{◌≡◌, ◌≤◌, ℕ, IfOk, OnErr, IsSome, true, false};
+ghost use Rattle.std.specs.Prelude.{◌≡◌, ◌≤◌, ℕ, Bool, IfOk, List, OnErr, IsSome, is_some, true, false};
 ghost use Rattle.pnp_model.specs.Frames.{first_node};
-ghost use Rattle.pnp_model.specs.Records.{Core};
+ghost use Rattle.pnp_model.specs.Records.{Core, Course, Handle, course_of};
 ghost use Rattle.pnp_model.specs.Cores.{set_rack};
-ghost use Rattle.pnp_model.specs.Rebalances.{rebalanced};
-ghost use Rattle.pnp_model.specs.Machine.{rebalance_walk, is_waiting};
+ghost use Rattle.pnp_model.specs.Machine.{is_waiting, job_step};
 ghost use Rattle.devnode_tree.specs.Cores.{at_nodes};
 ghost use Rattle.devnode_tree.specs.Identities.{identities};
 ghost use Rattle.device_holdings.specs.Mirrors.{IsMirrored, KeepsMirror};
-ghost use Rattle.rebalance.specs.Steps.{MovedBy, Rebalances, HasNext};
-ghost use Rattle.rebalance.specs.Parts.{StaysWhole, is_walking};
+ghost use Rattle.rebalance.specs.Steps.{HasNext, MovedBy, Rebalances};
+ghost use Rattle.rebalance.specs.Parts.{StaysWhole};
 
 use crate::frame::{Rebalance, Stage};
 use device_ids::WantOfMemory;
 use devnode_tree::Tree;
 use driver_rack::Drivers;
-use operation_frame::{Walked, pass_on};
+use operation_frame::{Asked, Walked, pass_on};
 use pnp_labels::Label;
 use std::alloc::Global;
 use trial_journal::Arbiters;
@@ -30,10 +29,8 @@ pub enum RebalanceStep {
     OverStart(Label),
     /// The rebalance is over, and the target is to lose its drivers.
     OverUndo(Label),
-    /// The rebalance is over, and nothing is done with the target.
-    OverDropped(Label),
-    /// The change is over.
-    OverChange(Label),
+    /// The rebalance or the change is over, and nothing is done with the target.
+    Over(Label),
 }
 
 impl Rebalance {
@@ -45,9 +42,9 @@ impl Rebalance {
         rack: &mut R,
     ) -> Result<RebalanceStep, WantOfMemory>
         requires there { IsSome (first_node tree.old.nodes self.old.todo) }
-        requires walking { is_walking self.old.stage ≡ true }
-        requires goes { is_waiting (rebalance_walk self.old.stage) ≡ false }
-        ensures rebalances { IfOk result (λ step. (budget : ℕ) (around : Core) → MovedBy budget (rebalanced (at_nodes tree.old.nodes (set_rack (R.rows rack.old) around)) self.old) step (at_nodes tree.new.nodes (set_rack (R.rows rack.new) around)) self.new) }
+        requires walking { is_some self.old.walk ≡ true }
+        requires goes { is_waiting self.old.walk ≡ false }
+        ensures rebalances { IfOk result (λ step. (budget : ℕ) (around : Core) (in_world : Bool) (handles : List Handle) → MovedBy budget (job_step (at_nodes tree.old.nodes (set_rack (R.rows rack.old) around)) self.old Course.Rebalancing in_world handles self.old.walk (first_node tree.old.nodes self.old.todo)) step (at_nodes tree.new.nodes (set_rack (R.rows rack.new) around)) self.new) }
         ensures whole { StaysWhole tree.old tree.new }
         ensures rebalance { OnErr result (self.new ≡ self.old) }
         ensures tree { OnErr result (tree.new ≡ tree.old) }
@@ -61,7 +58,8 @@ impl Rebalance {
                 Ok(RebalanceStep::Did(label))
             }
             Walked::Ended { path, refused } => {
-                let label = self.end_request(alloc, serial, path, refused, tree)?;
+                let device = Asked { serial, path };
+                let label = self.end_request(alloc, walk.minor(), refused, device, tree)?;
                 Ok(RebalanceStep::Did(label))
             }
         }
@@ -84,11 +82,12 @@ impl Rebalance {
         arbiters: &mut Arbiters,
         budget: u64,
     ) -> Result<RebalanceStep, WantOfMemory>
-        requires there { HasNext tree.old.nodes self.old self.old.stage }
-        requires goes { is_waiting (rebalance_walk self.old.stage) ≡ false }
+        requires there { HasNext (first_node tree.old.nodes self.old.todo) self.old.walk self.old.stage }
+        requires goes { is_waiting self.old.walk ≡ false }
         requires mirrored { IsMirrored tree.old.nodes arbiters.old }
         requires budget { budget ≤ 1000000 }
         ensures rebalances { IfOk result (λ step. Rebalances tree.old.nodes arbiters.old (R.rows rack.old) self.old budget step tree.new.nodes (R.rows rack.new) self.new) }
+        ensures course { course_of self.old.kind ≡ Course.Rebalancing }
         ensures next { tree.new.next ≡ tree.old.next }
         ensures keeps { identities tree.new.nodes ≡ identities tree.old.nodes }
         ensures mirrors { KeepsMirror tree.old.nodes arbiters.old tree.new.nodes arbiters.new }

@@ -4,7 +4,7 @@ ghost use Rattle.assign_search.specs.Fixed.{answer_of};
 ghost use Rattle.trial_journal.specs.ByKind.{lists_of};
 ghost use Rattle.pnp_model.specs.Rebalances.{movers, stop_on, cancel_on};
 ghost use Rattle.device_holdings.specs.Mirrors.{IsMirrored};
-ghost use Rattle.rebalance.specs.Parts.{Searched, found_label, found_frame};
+ghost use Rattle.rebalance.specs.Parts.{Searched, Takes};
 
 use crate::frame::Rebalance;
 use crate::queues::{reversed, with_first};
@@ -47,8 +47,8 @@ impl Rebalance {
 
     /// What was found is taken.
     fn take_found(&mut self, alloc: Global, found: Found, path: Text) -> Result<Label, WantOfMemory>
-        ensures label { IfOk result (λ label. label ≡ found_label path (answer_of found)) }
-        ensures frame { IfOk result (λ label. self.new ≡ found_frame self.old (answer_of found)) }
+        requires path { path ≡ self.old.path }
+        ensures takes { IfOk result (λ label. Takes self.old (answer_of found) label self.new) }
         ensures err { OnErr result (self.new ≡ self.old) }
     {
         match found {

@@ -18,6 +18,7 @@ use assign_search::Found;
 use device_holdings::assign_all;
 use device_ids::WantOfMemory;
 use devnode_tree::Tree;
+use operation_frame::SerialQueue;
 use pnp_labels::{Label, OpEnd, Problem};
 use resource_reqs::Reqs;
 use std::alloc::Global;
@@ -75,7 +76,8 @@ impl Rebalance {
         let path = self.path.copy(alloc)?;
         let problem = trouble_of(&self.found);
         tree.set_problem(self.target, Some(problem));
-        self.stage = Stage::Ending;
+        self.todo = SerialQueue::new(alloc);
+        self.stand(Stage::Ending);
         Ok(Label::Trouble { path, problem })
     }
 
@@ -185,14 +187,14 @@ impl Rebalance {
             result: self.result(),
         };
         if self.wanted.is_some() {
-            return Ok(RebalanceStep::OverChange(label));
+            return Ok(RebalanceStep::Over(label));
         }
         match &self.found {
             Found::Assignment(_) => {
                 if stands_up(tree, self.target) {
                     Ok(RebalanceStep::OverStart(label))
                 } else {
-                    Ok(RebalanceStep::OverDropped(label))
+                    Ok(RebalanceStep::Over(label))
                 }
             }
             _ => Ok(RebalanceStep::OverUndo(label)),

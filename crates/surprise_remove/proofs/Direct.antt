@@ -5,7 +5,7 @@ use Rattle.std.proofs.lemmas.List.Folds.{list_any-append}
 use Rattle.std.proofs.lemmas.List.Sorted.{IsPermutation-reverse, list_any-IsPermutation}
 use Rattle.pnp_model.specs.Keyed.{those}
 use Rattle.pnp_model.specs.Tests.{has}
-use Rattle.pnp_model.specs.Records.{Node, Relation, Handle, Surprise}
+use Rattle.pnp_model.specs.Records.{Node, Relation, Handle, Job}
 use Rattle.pnp_model.specs.Handles.{is_open}
 use Rattle.devnode_tree.specs.Entries.{child_serials}
 use Rattle.relations.specs.declared.edges.Edge.{Edge}
@@ -47,6 +47,6 @@ pub any-reverse : (ks js : List ℕ) → list_any (λ j. has (reverse ks) j) js 
 any-reverse ks js = any_agree (λ j. has (reverse ks) j) (λ j. has ks j) js (has-reverse ks)
 
 -- not told before and without a handle, it stays behind by that alone
-pub stays_so : (nodes : List Node) (rs : List Relation) (o : Surprise) (handles : List Handle) (k : ℕ) (b : Bool) → has o.told k ≡ false → is_open handles k ≡ false → b ≡ has_behind o (below nodes rs k) → b ≡ stays nodes rs o handles k
+pub stays_so : (nodes : List Node) (rs : List Relation) (o : Job) (handles : List Handle) (k : ℕ) (b : Bool) → has o.told k ≡ false → is_open handles k ≡ false → b ≡ has_behind o (below nodes rs k) → b ≡ stays nodes rs o handles k
 stays_so nodes rs o handles k b told shut h =
     h ∙ sym (ap (λ t. t || (is_open handles k || has_behind o (below nodes rs k))) told ∙ ap (λ t. t || has_behind o (below nodes rs k)) shut)

@@ -10,8 +10,8 @@ use Rattle.pnp_model.specs.Frames.{first_node, rest}
 use Rattle.pnp_model.specs.Laws.{HoldsWhole}
 use Rattle.pnp_model.specs.Handles.{is_open}
 use Rattle.pnp_model.specs.Trees.{hangs_on, direct, dependents}
-use Rattle.pnp_model.specs.Records.{Node, Core, Handle, State, Operation, Surprise, SurpriseStage}
-use Rattle.pnp_laws.specs.Kept.{Ascending, Within, HasStackOf, SurpriseKeeps}
+use Rattle.pnp_model.specs.Records.{Node, Core, Handle, State, Job, Course, Stage, course_of}
+use Rattle.pnp_laws.specs.Kept.{Ascending, Within, HasStackOf, SurpriseKeeps, SurpriseEnds}
 use Rattle.pnp_laws.proofs.Standing.{Tree, FinishesBut, HeadAlone, SurpriseOrder, SurpriseThere}
 use Rattle.pnp_laws.proofs.Standing.{Kept}
 use Rattle.pnp_laws.proofs.Lookups.{some_same}
@@ -24,8 +24,9 @@ use Rattle.relations.specs.Leaving.{base, below}
 use Rattle.relations.proofs.Directs.{hangs_listed, listed_hangs}
 use Rattle.relations.proofs.Bases.{dependents_same}
 use Rattle.operation_frame.specs.Nodes.{IsStripped}
-use Rattle.operation_frame.proofs.Given.{running, first_there, head_bare, not_root, alone_may_leave}
-use Rattle.surprise_remove.specs.Steps.{HasNext, DirectSays, SettlesStripped, has_behind, stays}
+use Rattle.operation_frame.specs.Steps.{HasNext}
+use Rattle.operation_frame.proofs.Given.{runs_as, first_there, head_bare, not_root, alone_may_leave}
+use Rattle.surprise_remove.specs.Steps.{DirectSays, SettlesStripped, has_behind, stays}
 
 -- What hangs on the device that is next --------------------------------------------------------
 
@@ -122,7 +123,7 @@ head_same j k [] a b = absurd a
 head_same j k (i ∷ is) a b = sym a ∙ b
 
 -- nothing hangs on a device that does not stay behind
-goes_alone : (next : ℕ) (c : Core) (o : Surprise) (handles : List Handle) (k : ℕ) → Ascending 0 c.nodes → Tree next c → FinishesBut c o.set o.behind o.todo → HeadIs k o.todo → has o.set k ≡ true
+goes_alone : (next : ℕ) (c : Core) (o : Job) (handles : List Handle) (k : ℕ) → Ascending 0 c.nodes → Tree next c → FinishesBut c o.set o.behind o.todo → HeadIs k o.todo → has o.set k ≡ true
     → stays c.nodes c.relations o handles k ≡ false → HeadAlone c o.todo
 goes_alone next c o handles k order tree finishes head inside goes i same j m at on =
     let on_k = subst (λ (x : ℕ). hangs_on c (x ∷ []) m ≡ true) (head_same i k o.todo same head) on in
@@ -133,7 +134,7 @@ goes_alone next c o handles k order tree finishes head inside goes i same j m at
     let no = none.1 in
     cc
 
-module _ (next : ℕ) (c : Core) (o : Surprise) (handles : List Handle) (order : Ascending 0 c.nodes) (tree : Tree next c) (whole : HoldsWhole c.nodes)
+module _ (next : ℕ) (c : Core) (o : Job) (handles : List Handle) (order : Ascending 0 c.nodes) (tree : Tree next c) (whole : HoldsWhole c.nodes)
     (stacks : (k : ℕ) (n : Node) → node_at k c.nodes ≡ Some n → HasStackOf k n.state n.stack) (rootless : has o.set 0 ≡ false) (inside : Within o.todo o.set) where
   no_root : has o.todo 0 ≡ false
   no_root = untrue (has o.todo 0) (λ h. let own = inside 0 h in cc)
@@ -147,7 +148,7 @@ module _ (next : ℕ) (c : Core) (o : Surprise) (handles : List Handle) (order :
       (stacks k m at).some (not_root o.todo k no_root (head_has k o.todo head)) (subst (λ (x : Node). x.stack ≡ []) same none)
 
   -- where it is decided, it may leave if it goes without drivers
-  next_settles : FinishesBut c o.set o.behind o.todo → SettlesStripped c.nodes c.relations o handles SurpriseStage.Next
+  next_settles : FinishesBut c o.set o.behind o.todo → SettlesStripped c.nodes c.relations o handles Stage.Next
   next_settles finishes = by (first_node c.nodes o.todo) refl
     where
       by : (x : Option Node) → first_node c.nodes o.todo ≡ x → IfSome x (λ n. n.stack ≡ [] → stays c.nodes c.relations o handles n.serial ≡ false → IsStripped c.nodes n)
@@ -158,7 +159,7 @@ module _ (next : ℕ) (c : Core) (o : Surprise) (handles : List Handle) (order :
           subst (λ (x : Option Node). IfSome x (IsStripped c.nodes)) first (alone_may_leave c o.todo order whole no_root alone (bare_at n none first))
 
   -- and the direct ones tell whether it stays
-  next_direct : FinishesBut c o.set o.behind o.todo → DirectSays c.nodes c.relations o SurpriseStage.Next
+  next_direct : FinishesBut c o.set o.behind o.todo → DirectSays c.nodes c.relations o Stage.Next
   next_direct finishes = by (first_node c.nodes o.todo) refl
     where
       by : (x : Option Node) → first_node c.nodes o.todo ≡ x → IfSome x (λ n. has_behind o (dependents (base c.nodes c.relations) n.serial) ≡ has_behind o (below c.nodes c.relations n.serial))
@@ -168,35 +169,30 @@ module _ (next : ℕ) (c : Core) (o : Surprise) (handles : List Handle) (order :
           ap (has_behind o) (sym (dependents_same c.nodes c.relations c n.serial))
           ∙ direct_says c o.behind n.serial order (hung_behind next c o.set o.behind o.todo order tree finishes n.serial head (inside n.serial (head_has n.serial o.todo head)))
 
-  settles : (stage : SurpriseStage) → SurpriseKeeps o stage c.nodes → SurpriseOrder c o stage → SettlesStripped c.nodes c.relations o handles stage
-  settles SurpriseStage.Next keeps h = next_settles h
-  settles SurpriseStage.Settling keeps h = alone_may_leave c o.todo order whole no_root h.1 (λ k n head at. head_bare o.todo k n.state head (keeps.each k n at))
-  settles (SurpriseStage.Telling w) keeps h = tt
-  settles (SurpriseStage.Removing w) keeps h = tt
-  settles SurpriseStage.Ending keeps h = tt
+  settles : (stage : Stage) → SurpriseKeeps o stage c.nodes → SurpriseOrder c o stage → SettlesStripped c.nodes c.relations o handles stage
+  settles Stage.Next keeps h = next_settles h
+  settles Stage.Settling keeps h = alone_may_leave c o.todo order whole no_root h.1 (λ k n head at. head_bare o.todo k n.state head (keeps.each k n at))
+  settles _ keeps h = tt
 
-  says : (stage : SurpriseStage) → SurpriseOrder c o stage → DirectSays c.nodes c.relations o stage
-  says SurpriseStage.Next h = next_direct h
-  says (SurpriseStage.Telling w) h = tt
-  says (SurpriseStage.Removing w) h = tt
-  says SurpriseStage.Settling h = tt
-  says SurpriseStage.Ending h = tt
+  says : (stage : Stage) → SurpriseOrder c o stage → DirectSays c.nodes c.relations o stage
+  says Stage.Next h = next_direct h
+  says _ h = tt
 
-there : (nodes : List Node) (o : Surprise) (stage : SurpriseStage) → SurpriseThere o stage nodes → HasNext nodes o stage
-there nodes o SurpriseStage.Ending h = tt
-there nodes o (SurpriseStage.Telling w) h = first_there o.todo nodes h.0
-there nodes o SurpriseStage.Next h = first_there o.todo nodes h.0
-there nodes o (SurpriseStage.Removing w) h = first_there o.todo nodes h.0
-there nodes o SurpriseStage.Settling h = first_there o.todo nodes h.0
+there : (nodes : List Node) (o : Job) (stage : Stage) → SurpriseEnds o stage → SurpriseThere o stage nodes → HasNext nodes o stage
+there nodes o Stage.Ending ends h = tt
+there nodes o Stage.Telling ends h = first_there o.todo nodes h.0
+there nodes o Stage.Next ends h = first_there o.todo nodes h.0
+there nodes o Stage.Removing ends h = first_there o.todo nodes h.0
+there nodes o Stage.Settling ends h = first_there o.todo nodes h.0
+there nodes o _ ends h = absurd ends
 
 -- a surprise removal under way in a state of a run can take its step, where no request waits
-pub surprise_ready : (s : State) (o : Surprise) (handles : List Handle) → Kept s → HoldsWhole s.core.nodes → s.operation ≡ Some (Operation.Surprising o)
+pub surprise_ready : (s : State) (o : Job) (handles : List Handle) → course_of o.kind ≡ Course.Surprising → Kept s → HoldsWhole s.core.nodes → s.operation ≡ Some o
     → HasNext s.core.nodes o o.stage × DirectSays s.core.nodes s.core.relations o o.stage × SettlesStripped s.core.nodes s.core.relations o handles o.stage
-surprise_ready s o handles kept whole is =
-    let runs = running s (Operation.Surprising o) kept is in
-    let keeps = runs.1 in
-    let order = runs.0.0 in (
-      there s.core.nodes o o.stage runs.0.1,
-      says s.next_serial s.core o handles kept.good.serials kept.stands.tree whole kept.good.stacks keeps.rootless keeps.inside o.stage order,
-      settles s.next_serial s.core o handles kept.good.serials kept.stands.tree whole kept.good.stacks keeps.rootless keeps.inside o.stage keeps order,
+surprise_ready s o handles course kept whole is =
+    let runs = runs_as Course.Surprising s o course kept is in
+    let keeps = runs.1 in (
+      there s.core.nodes o o.stage keeps.ends runs.0.1,
+      says s.next_serial s.core o handles kept.good.serials kept.stands.tree whole kept.good.stacks keeps.rootless keeps.inside o.stage runs.0.0,
+      settles s.next_serial s.core o handles kept.good.serials kept.stands.tree whole kept.good.stacks keeps.rootless keeps.inside o.stage keeps runs.0.0,
     )

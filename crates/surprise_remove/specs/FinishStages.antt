@@ -3,15 +3,24 @@ use Rattle.std.specs.Prelude.{ℕ, Bool, true, false, List, [], ◌∷◌, Optio
 use Rattle.pnp_labels.specs.declared.states.Problem.{Problem}
 use Rattle.pnp_model.specs.Finishes.{is_leaving}
 use Rattle.pnp_model.specs.Records as Records
-use Rattle.pnp_model.specs.Records.{Node, Walk, FinishStage}
+use Rattle.pnp_model.specs.Records.{Node, Walk}
+use Rattle.operation_frame.specs.Walks.{walk_if}
 use Rattle.surprise_remove.specs.declared.finish.Stage.{Stage}
 use Rattle.surprise_remove.specs.declared.finish.Stage.TheVariants.{Next, Removing, Leaving, Holding}
 
-abbrev pub stage_of : Stage → Walk → FinishStage
-stage_of Next w = Records.FinishStage.Next
-stage_of (Removing k) w = Records.FinishStage.Removing w
-stage_of (Leaving k) w = Records.FinishStage.Leaving
-stage_of (Holding k) w = Records.FinishStage.Holding
+abbrev pub stage_of : Stage → Records.Stage
+stage_of Next = Records.Stage.Next
+stage_of (Removing k) = Records.Stage.Removing
+stage_of (Leaving k) = Records.Stage.Leaving
+stage_of (Holding k) = Records.Stage.Holding
+
+-- a request is on its way
+abbrev pub is_walking : Stage → Bool
+is_walking (Removing k) = true
+is_walking _ = false
+
+abbrev pub walk_at : Stage → Walk → Option Walk
+walk_at stage w = walk_if (is_walking stage) w
 
 -- the current device
 abbrev pub todo_of : Stage → List ℕ

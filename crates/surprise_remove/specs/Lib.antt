@@ -1,9 +1,6 @@
 pub mod Stages
-pub mod Frames
-pub mod Begins
 pub mod Steps
 pub mod Parts
 pub mod FinishStages
-pub mod FinishFrames
 pub mod FinishSteps
 pub mod Ready

@@ -3,9 +3,10 @@ ghost use Rattle.pnp_model.specs.Cores.{node_at};
 ghost use Rattle.pnp_model.specs.Keyed.{those};
 ghost use Rattle.pnp_model.specs.Handles.{was_told};
 ghost use Rattle.pnp_model.specs.Records.{Core, Relation};
-ghost use Rattle.pnp_model.specs.Surprises.{is_told_node, begun_with};
+ghost use Rattle.pnp_model.specs.Surprises.{is_told_node, begun_with, begun_surprise};
 ghost use Rattle.devnode_tree.specs.Cores.{at_related};
-ghost use Rattle.surprise_remove.specs.Begins.{BegunFor};
+ghost use Rattle.operation_frame.specs.Steps.{BegunFor};
+ghost use Rattle.pnp_labels.specs.declared.label.OpKind.{OpKind};
 
 use crate::frame::{Stage, Surprise};
 use crate::readiness::was_told;
@@ -93,7 +94,7 @@ impl Surprise {
         serial: u64,
     ) -> Result<(Label, Surprise), WantOfMemory>
         requires { IsSome (node_at serial tree.now.nodes) }
-        ensures { IfOk result (λ begun. BegunFor (node_at serial tree.now.nodes) tree.now.nodes relations.now begun.0 begun.1) }
+        ensures { IfOk result (λ begun. BegunFor OpKind.Surprise begun_surprise (node_at serial tree.now.nodes) tree.now.nodes relations.now begun.0 begun.1) }
     {
         let node = tree.at(serial);
         let path = node.path.text(alloc)?;

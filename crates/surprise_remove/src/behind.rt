@@ -1,15 +1,16 @@
-ghost use Rattle.std.specs.Prelude.{◌≡◌, ◌&&◌, IfOk, OnErr, IsSome};
+ghost use Rattle.std.specs.Prelude.{◌≡◌, ◌&&◌, IfOk, OnErr, IsSome, None};
 ghost use Rattle.std.specs.List.{list_any};
 ghost use Rattle.pnp_model.specs.Tests.{has};
 ghost use Rattle.pnp_model.specs.Frames.{first_node};
-ghost use Rattle.pnp_model.specs.Records.SurpriseStage.{Next};
+ghost use Rattle.pnp_model.specs.Records.{Course};
+ghost use Rattle.pnp_model.specs.Records.Stage.{Next};
 ghost use Rattle.pnp_model.specs.Surprises.{wait};
 ghost use Rattle.trial_journal.specs.ByKind as ByKind;
 ghost use Rattle.device_holdings.specs.Mirrors.{IsMirrored, KeepsMirror};
-ghost use Rattle.operation_frame.specs.Steps.{MovesFor};
+ghost use Rattle.operation_frame.specs.Steps.{Moved, MovesFor, JobSteps};
 ghost use Rattle.relations.specs.Leaving.{below, is_there};
 ghost use Rattle.pnp_labels.specs.declared.label.RemoveStep.TheVariants as steps;
-ghost use Rattle.surprise_remove.specs.Steps.{Moved, Surprises, DirectSays, SettlesStripped, stays};
+ghost use Rattle.surprise_remove.specs.Steps.{DirectSays, SettlesStripped, stays};
 ghost use Rattle.surprise_remove.specs.Parts.{finishing};
 
 use crate::frame::{Stage, Surprise};
@@ -98,11 +99,12 @@ impl Surprise {
         handles: &Handles,
     ) -> Result<RemoveStep, WantOfMemory>
         requires stage { self.old.stage ≡ Next }
+        requires none { self.old.walk ≡ None }
         requires there { IsSome (first_node tree.old.nodes self.old.todo) }
         requires direct { DirectSays tree.old.nodes relations.old self.old Next }
         requires settles { SettlesStripped tree.old.nodes relations.old self.old handles.now Next }
         requires mirrored { IsMirrored tree.old.nodes arbiters.old }
-        ensures surprises { IfOk result (λ step. Surprises tree.old.nodes relations.old (R.rows rack.old) self.old in_world handles.now step tree.new.nodes relations.new (R.rows rack.new) self.new) }
+        ensures surprises { IfOk result (λ step. JobSteps Course.Surprising tree.old.nodes relations.old (R.rows rack.old) in_world handles.now self.old step tree.new.nodes relations.new (R.rows rack.new) self.new) }
         ensures next { tree.new.next ≡ tree.old.next }
         ensures mirrors { KeepsMirror tree.old.nodes arbiters.old tree.new.nodes arbiters.new }
         ensures surprise { OnErr result (self.new ≡ self.old) }

@@ -1,11 +1,13 @@
-ghost use Rattle.std.specs.Prelude.{◌≡◌, ◌↔◌, IfOk, IsSome, IsNone, slice_get, option_map};
+ghost use Rattle.std.specs.Prelude.{◌≡◌, ◌↔◌, [], IfOk, IsSome, IsNone, slice_get, option_map};
 ghost use Rattle.pnp_model.specs.Cores.{node_at};
-ghost use Rattle.pnp_model.specs.Machine.{finish_walk};
-ghost use Rattle.pnp_model.specs.Records.FinishStage.{Next};
+ghost use Rattle.pnp_model.specs.Finishes.{begun_finish};
+ghost use Rattle.pnp_model.specs.Records.{Course, course_of};
+ghost use Rattle.pnp_model.specs.Records.Stage.{Next};
 ghost use Rattle.pnp_labels.specs.declared.label.OpEnd.{OpEnd};
 ghost use Rattle.pnp_labels.specs.declared.label.OpKind.{OpKind};
 ghost use Rattle.pnp_labels.specs.declared.label.Label.{Label};
-ghost use Rattle.surprise_remove.specs.FinishFrames.{minor_that_waits, Completed, BegunFor};
+ghost use Rattle.device_stack.specs.Waiting.{minor_of};
+ghost use Rattle.operation_frame.specs.Steps.{BegunFor, Completed};
 
 use device_ids::{Text, WantOfMemory};
 use device_stack::{NoSuchRequest, Walk};
@@ -49,12 +51,15 @@ impl Drop for Finish {
 }
 
 impl Model for Finish {
-    ghost use Rattle.pnp_model.specs.Records.{Finish};
-    ghost use Rattle.surprise_remove.specs.FinishStages.{stage_of, todo_of};
+    ghost use Rattle.std.specs.Prelude.{None, []};
+    ghost use Rattle.resource_reqs.specs.Spelling.Answer.{no_fit};
+    ghost use Rattle.pnp_labels.specs.declared.label.OpKind.{OpKind};
+    ghost use Rattle.pnp_model.specs.Records.{Job};
+    ghost use Rattle.surprise_remove.specs.FinishStages.{stage_of, todo_of, walk_at};
 
-    ghost Value = { Finish };
+    ghost Value = { Job };
 
-    ghost view = { λ r. record { target = r.target; path = r.path; todo = todo_of r.stage; stage = stage_of r.stage r.walk.walk } };
+    ghost view = { λ r. record { kind = OpKind.Finish; target = r.target; path = r.path; wanted = None; set = []; ejecting = []; told = []; todo = todo_of r.stage; agreed = []; refused = []; behind = []; found = no_fit; stage = stage_of r.stage; walk = walk_at r.stage r.walk.walk } };
 }
 
 impl Finish {
@@ -62,7 +67,7 @@ impl Finish {
     /// begin. Condition: the device is there. Cost: the logarithm of the number of nodes.
     pub fn begin(alloc: Global, tree: &Tree, serial: u64) -> Result<(Label, Finish), WantOfMemory>
         requires { IsSome (node_at serial tree.now.nodes) }
-        ensures { IfOk result (λ begun. BegunFor (node_at serial tree.now.nodes) begun.0 begun.1) }
+        ensures { IfOk result (λ begun. BegunFor OpKind.Finish (λ c n. begun_finish n) (node_at serial tree.now.nodes) tree.now.nodes [] begun.0 begun.1) }
     {
         let node = tree.at(serial);
         let line = node.path.text(alloc)?;
@@ -94,6 +99,7 @@ impl Finish {
     pub fn current(&self) -> Option<u64>
         ensures first { result ≡ slice_get self.now.todo 0 }
         ensures none { IsNone result ↔ (self.now.stage ≡ Next) }
+        ensures course { course_of self.now.kind ≡ Course.Finishing }
     {
         match self.stage {
             Stage::Next => None,
@@ -105,7 +111,7 @@ impl Finish {
 
     /// The request that waits for a driver; none exactly where none waits.
     pub fn waits(&self) -> Option<Minor>
-        ensures { result ≡ minor_that_waits self.now.stage }
+        ensures { result ≡ minor_of self.now.walk }
     {
         match self.stage {
             Stage::Removing(_) => self.walk.waiting_minor(),
@@ -115,7 +121,7 @@ impl Finish {
 
     /// The request that is on its way through the drivers of the current device; none exactly where none is.
     pub fn walk(&self) -> Option<&Walk>
-        ensures { option_map (λ w. w.now.walk) result ≡ finish_walk self.now.stage }
+        ensures { option_map (λ w. w.now.walk) result ≡ self.now.walk }
     {
         match self.stage {
             Stage::Removing(_) => Some(&self.walk),
@@ -136,7 +142,7 @@ impl Finish {
 
     /// The line of the end.
     pub(crate) fn end_line(&self, alloc: Global) -> Result<Label, WantOfMemory>
-        ensures { IfOk result (λ label. label ≡ Label.End OpKind.Finish self.now.path OpEnd.Done) }
+        ensures { IfOk result (λ label. label ≡ Label.End self.now.kind self.now.path OpEnd.Done) }
     {
         Ok(Label::End {
             op: OpKind::Finish,

@@ -1,14 +1,15 @@
-ghost use Rattle.std.specs.Prelude.{◌≡◌, ◌∷◌, [], Bool, List, true, false, IfOk, OnErr, IsSome, IfSome};
+ghost use Rattle.std.specs.Prelude.{◌≡◌, ◌∷◌, [], Bool, List, None, false, IfOk, OnErr, IsSome, IfSome};
 ghost use Rattle.pnp_model.specs.Cores.{node_at};
-ghost use Rattle.pnp_model.specs.Machine.{finish_walk, is_waiting};
+ghost use Rattle.pnp_model.specs.Machine.{is_waiting};
 ghost use Rattle.pnp_model.specs.Finishes as moves;
-ghost use Rattle.pnp_model.specs.Records.{Handle, FinishStage};
+ghost use Rattle.pnp_model.specs.Records as Records;
+ghost use Rattle.pnp_model.specs.Records.{Handle, Course};
 ghost use Rattle.trial_journal.specs.ByKind as ByKind;
 ghost use Rattle.device_holdings.specs.Mirrors.{IsMirrored, KeepsMirror};
 ghost use Rattle.operation_frame.specs.Nodes.{IsStripped};
-ghost use Rattle.operation_frame.specs.Steps.{MovesFor};
+ghost use Rattle.operation_frame.specs.Steps.{Moved, MovesFor, JobSteps};
 ghost use Rattle.surprise_remove.specs.FinishStages.{settled_at};
-ghost use Rattle.surprise_remove.specs.FinishSteps.{Moved, Finishes, HasCurrent, LeavesStripped, is_walking};
+ghost use Rattle.surprise_remove.specs.FinishSteps.{HasCurrent, LeavesStripped};
 
 use crate::finish::{Finish, Stage};
 use crate::readiness::{ready, was_told};
@@ -16,7 +17,7 @@ use device_ids::WantOfMemory;
 use device_stack::Walk;
 use devnode_tree::{Handles, Tree};
 use driver_rack::Drivers;
-use operation_frame::{Settled, Walked, leave, pass_on, remain, strip};
+use operation_frame::{Asked, Settled, Walked, end_request, leave, pass_on, remain};
 use pnp_labels::{Label, Minor, Problem, RemoveStep};
 use relations::Relations;
 use std::alloc::Global;
@@ -48,8 +49,9 @@ impl Finish {
         rack: &mut R,
         handles: &Handles,
     ) -> Result<RemoveStep, WantOfMemory>
-        requires { self.old.stage ≡ FinishStage.Next }
-        ensures takes { IfOk result (λ step. (in_world : Bool) → Finishes tree.now.nodes relations.now (R.rows rack.old) self.old in_world handles.now step tree.now.nodes relations.now (R.rows rack.new) self.new) }
+        requires stage { self.old.stage ≡ Records.Stage.Next }
+        requires none { self.old.walk ≡ None }
+        ensures takes { IfOk result (λ step. (in_world : Bool) → JobSteps Course.Finishing tree.now.nodes relations.now (R.rows rack.old) in_world handles.now self.old step tree.now.nodes relations.now (R.rows rack.new) self.new) }
         ensures finish { OnErr result (self.new ≡ self.old) }
         ensures rack { OnErr result (R.rows rack.new ≡ R.rows rack.old) }
     {
@@ -80,10 +82,10 @@ impl Finish {
     ) -> Result<RemoveStep, WantOfMemory>
         requires there { IsSome (node_at serial tree.old.nodes) }
         requires todo { self.old.todo ≡ serial ∷ [] }
-        requires walking { is_walking self.old.stage ≡ true }
-        requires goes { is_waiting (finish_walk self.old.stage) ≡ false }
+        requires walking { IsSome self.old.walk }
+        requires goes { is_waiting self.old.walk ≡ false }
         requires mirrored { IsMirrored tree.old.nodes arbiters.old }
-        ensures finishes { IfOk result (λ step. (handles : List Handle) → Finishes tree.old.nodes relations.old (R.rows rack.old) self.old in_world handles step tree.new.nodes relations.new (R.rows rack.new) self.new) }
+        ensures finishes { IfOk result (λ step. (handles : List Handle) → JobSteps Course.Finishing tree.old.nodes relations.old (R.rows rack.old) in_world handles self.old step tree.new.nodes relations.new (R.rows rack.new) self.new) }
         ensures next { tree.new.next ≡ tree.old.next }
         ensures mirrors { KeepsMirror tree.old.nodes arbiters.old tree.new.nodes arbiters.new }
         ensures finish { OnErr result (self.new ≡ self.old) }
@@ -97,9 +99,11 @@ impl Finish {
                 self.walk = walk;
                 Ok(RemoveStep::Did(label))
             }
-            Walked::Ended { path, .. } => {
+            Walked::Ended { path, refused } => {
                 self.stage = settled(tree, serial, in_world);
-                Ok(RemoveStep::Did(strip(path, serial, tree, relations, arbiters)))
+                let device = Asked { serial, path };
+                let minor = walk.minor();
+                Ok(RemoveStep::Did(end_request(minor, refused, device, tree, relations, arbiters)))
             }
         }
     }
@@ -171,9 +175,9 @@ impl Finish {
     ) -> Result<RemoveStep, WantOfMemory>
         requires there { HasCurrent tree.old.nodes self.old self.old.stage }
         requires leaves { LeavesStripped tree.old.nodes self.old self.old.stage }
-        requires goes { is_waiting (finish_walk self.old.stage) ≡ false }
+        requires goes { is_waiting self.old.walk ≡ false }
         requires mirrored { IsMirrored tree.old.nodes arbiters.old }
-        ensures finishes { IfOk result (λ step. Finishes tree.old.nodes relations.old (R.rows rack.old) self.old in_world handles.now step tree.new.nodes relations.new (R.rows rack.new) self.new) }
+        ensures finishes { IfOk result (λ step. JobSteps Course.Finishing tree.old.nodes relations.old (R.rows rack.old) in_world handles.now self.old step tree.new.nodes relations.new (R.rows rack.new) self.new) }
         ensures next { tree.new.next ≡ tree.old.next }
         ensures mirrors { KeepsMirror tree.old.nodes arbiters.old tree.new.nodes arbiters.new }
         ensures finish { OnErr result (self.new ≡ self.old) }

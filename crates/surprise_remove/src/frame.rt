@@ -1,9 +1,10 @@
 ghost use Rattle.std.specs.Prelude.{◌≡◌, ◌==◌, slice_get, option_map};
 ghost use Rattle.pnp_model.specs.Tests.{has};
-ghost use Rattle.pnp_model.specs.Machine.{surprise_walk};
+ghost use Rattle.pnp_model.specs.Records.{Course, course_of};
 ghost use Rattle.pnp_model.specs.Surprises.{finish_on, tell_on};
 ghost use Rattle.operation_frame.specs.Queues.{all_after};
-ghost use Rattle.surprise_remove.specs.Frames.{minor_that_waits, Completed};
+ghost use Rattle.device_stack.specs.Waiting.{minor_of};
+ghost use Rattle.operation_frame.specs.Steps.{Completed};
 
 use device_ids::Text;
 use device_stack::{NoSuchRequest, Walk};
@@ -58,19 +59,21 @@ impl Drop for Surprise {
 }
 
 impl Model for Surprise {
-    ghost use Rattle.std.specs.Prelude.{reverse};
-    ghost use Rattle.pnp_model.specs.Records.{Surprise};
-    ghost use Rattle.surprise_remove.specs.Stages.{stage_of};
+    ghost use Rattle.std.specs.Prelude.{None, [], reverse};
+    ghost use Rattle.resource_reqs.specs.Spelling.Answer.{no_fit};
+    ghost use Rattle.pnp_labels.specs.declared.label.OpKind.{OpKind};
+    ghost use Rattle.pnp_model.specs.Records.{Job};
+    ghost use Rattle.surprise_remove.specs.Stages.{stage_of, walk_at};
 
-    ghost Value = { Surprise };
+    ghost Value = { Job };
 
-    ghost view = { λ r. record { target = r.target; path = r.path; set = r.set; told = r.told; behind = reverse r.behind; todo = r.todo; stage = stage_of r.stage r.walk.walk } };
+    ghost view = { λ r. record { kind = OpKind.Surprise; target = r.target; path = r.path; wanted = None; set = r.set; ejecting = []; told = r.told; todo = r.todo; agreed = []; refused = []; behind = reverse r.behind; found = no_fit; stage = stage_of r.stage; walk = walk_at r.stage r.walk.walk } };
 }
 
 impl Surprise {
     /// The request that waits for a driver; none exactly where none waits.
     pub fn waits(&self) -> Option<Minor>
-        ensures { result ≡ minor_that_waits self.now.stage }
+        ensures { result ≡ minor_of self.now.walk }
     {
         match self.stage {
             Stage::Next | Stage::Settling | Stage::Ending => None,
@@ -80,14 +83,15 @@ impl Surprise {
 
     /// The device that the bus has lost.
     pub fn target(&self) -> u64
-        ensures { result ≡ self.now.target }
+        ensures target { result ≡ self.now.target }
+        ensures course { course_of self.now.kind ≡ Course.Surprising }
     {
         self.target
     }
 
     /// The request that is on its way through the drivers of the device that is next; none exactly where none is.
     pub fn walk(&self) -> Option<&Walk>
-        ensures { option_map (λ w. w.now.walk) result ≡ surprise_walk self.now.stage }
+        ensures { option_map (λ w. w.now.walk) result ≡ self.now.walk }
     {
         match self.stage {
             Stage::Next | Stage::Settling | Stage::Ending => None,

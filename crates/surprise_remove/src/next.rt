@@ -1,68 +1,48 @@
-ghost use Rattle.std.specs.Prelude.{◌≡◌, List, IfOk, IfSome, OnErr, IsSome, true, false};
-ghost use Rattle.pnp_model.specs.Cores.{node_at};
-ghost use Rattle.pnp_model.specs.Machine.{surprise_walk, is_waiting};
-ghost use Rattle.pnp_model.specs.Surprises.{tell_step};
-ghost use Rattle.pnp_model.specs.Frames.{first_node};
+ghost use Rattle.std.specs.Prelude.{◌≡◌, List, IfOk, IfSome, OnErr, IsSome, Some, true, false};
+ghost use Rattle.pnp_model.specs.Machine.{is_waiting};
+ghost use Rattle.pnp_model.specs.Surprises.{tell_on, after_end};
+ghost use Rattle.pnp_model.specs.Frames.{first_node, rest};
 ghost use Rattle.pnp_model.specs.Records as Records;
-ghost use Rattle.trial_journal.specs.ByKind as ByKind;
+ghost use Rattle.pnp_model.specs.Records.{Course};
 ghost use Rattle.device_holdings.specs.Mirrors.{IsMirrored, KeepsMirror};
-ghost use Rattle.operation_frame.specs.Nodes.{PathIs, IsStripped};
-ghost use Rattle.operation_frame.specs.Steps.{MovesFor, MovesRelated};
-ghost use Rattle.pnp_labels.specs.declared.label.RemoveStep.TheVariants as steps;
-ghost use Rattle.surprise_remove.specs.Steps.{Moved, Surprises, HasNext, DirectSays, SettlesStripped};
-ghost use Rattle.surprise_remove.specs.Parts.{end_move, is_walking, is_under_way};
+ghost use Rattle.operation_frame.specs.Nodes.{IsStripped};
+ghost use Rattle.operation_frame.specs.Steps.{JobSteps, HasNext};
+ghost use Rattle.surprise_remove.specs.Steps.{DirectSays, SettlesStripped};
+ghost use Rattle.surprise_remove.specs.Parts.{is_under_way};
 
 use crate::frame::{Stage, Surprise};
 use device_ids::WantOfMemory;
 use devnode_tree::{Handles, Tree};
 use driver_rack::Drivers;
-use operation_frame::{Asked, Walked, end_walk, pass_on, strip};
-use pnp_labels::{Label, Minor, RemoveStep};
+use operation_frame::{Asked, Walked, end_request, pass_on};
+use pnp_labels::RemoveStep;
 use relations::Relations;
 use std::alloc::Global;
 use trial_journal::Arbiters;
 
 impl Surprise {
     /// The device that is next was told; after the last one all are finished.
-    fn told(&mut self, alloc: Global, asked: Asked, tree: &mut Tree) -> Result<Label, WantOfMemory>
-        requires path { PathIs (node_at asked.serial tree.old.nodes) asked.path }
-        ensures told { IfOk result (λ label. (w : Records.Walk) → MovesFor Moved (node_at asked.serial tree.old.nodes) (λ c n. tell_step c self.old n w true) tree.old.nodes (steps.Did label) tree.new.nodes self.new) }
-        ensures next { tree.new.next ≡ tree.old.next }
-        ensures mirrors { (arbiters : ByKind.Arbiters) → KeepsMirror tree.old.nodes arbiters tree.new.nodes arbiters }
+    fn told(&mut self, alloc: Global) -> Result<(), WantOfMemory>
+        ensures told { IfOk result (λ done. self.new ≡ tell_on self.old (rest self.old.todo)) }
         ensures surprise { OnErr result (self.new ≡ self.old) }
-        ensures tree { OnErr result (tree.new ≡ tree.old) }
     {
         let all = self.todo.all_after_next(alloc, &self.set)?;
         self.todo.drop_first();
         self.tell_next(all);
-        let minor = Minor::SurpriseRemoval;
-        Ok(end_walk(minor, false, asked.path, asked.serial, tree))
+        Ok(())
     }
 
-    /// The request of the device that is next has ended.
-    fn end_request(
-        &mut self,
-        alloc: Global,
-        tree: &mut Tree,
-        relations: &mut Relations,
-        arbiters: &mut Arbiters,
-        asked: Asked,
-    ) -> Result<Label, WantOfMemory>
-        requires path { PathIs (node_at asked.serial tree.old.nodes) asked.path }
-        requires walking { is_walking self.old.stage ≡ true }
-        requires mirrored { IsMirrored tree.old.nodes arbiters.old }
-        ensures ended { IfOk result (λ label. MovesRelated Moved (node_at asked.serial tree.old.nodes) (end_move self.old self.old.stage) tree.old.nodes relations.old (steps.Did label) tree.new.nodes relations.new self.new) }
-        ensures next { tree.new.next ≡ tree.old.next }
-        ensures mirrors { KeepsMirror tree.old.nodes arbiters.old tree.new.nodes arbiters.new }
+    /// The request of the device that is next has ended: how the operation stands then.
+    fn after_end(&mut self, alloc: Global) -> Result<(), WantOfMemory>
+        requires walking { IsSome self.old.walk }
+        ensures stands { IfOk result (λ done. after_end self.old self.old.stage ≡ Some self.new) }
         ensures surprise { OnErr result (self.new ≡ self.old) }
-        ensures tree { OnErr result (tree.new ≡ tree.old) }
-        ensures relations { OnErr result (relations.new ≡ relations.old) }
     {
         match self.stage {
-            Stage::Telling => self.told(alloc, asked, tree),
+            Stage::Telling => self.told(alloc),
             _ => {
                 self.stage = Stage::Settling;
-                Ok(strip(asked.path, asked.serial, tree, relations, arbiters))
+                Ok(())
             }
         }
     }
@@ -78,10 +58,10 @@ impl Surprise {
         in_world: bool,
     ) -> Result<RemoveStep, WantOfMemory>
         requires there { IsSome (first_node tree.old.nodes self.old.todo) }
-        requires walking { is_walking self.old.stage ≡ true }
-        requires goes { is_waiting (surprise_walk self.old.stage) ≡ false }
+        requires walking { IsSome self.old.walk }
+        requires goes { is_waiting self.old.walk ≡ false }
         requires mirrored { IsMirrored tree.old.nodes arbiters.old }
-        ensures surprises { IfOk result (λ step. (handles : List Records.Handle) → Surprises tree.old.nodes relations.old (R.rows rack.old) self.old in_world handles step tree.new.nodes relations.new (R.rows rack.new) self.new) }
+        ensures surprises { IfOk result (λ step. (handles : List Records.Handle) → JobSteps Course.Surprising tree.old.nodes relations.old (R.rows rack.old) in_world handles self.old step tree.new.nodes relations.new (R.rows rack.new) self.new) }
         ensures next { tree.new.next ≡ tree.old.next }
         ensures mirrors { KeepsMirror tree.old.nodes arbiters.old tree.new.nodes arbiters.new }
         ensures surprise { OnErr result (self.new ≡ self.old) }
@@ -92,10 +72,11 @@ impl Surprise {
         let serial = self.todo.first();
         let mut walk = self.walk;
         match pass_on(alloc, serial, &mut walk, tree, rack)? {
-            Walked::Ended { path, .. } => {
-                let asked = Asked { serial, path };
-                let label = self.end_request(alloc, tree, relations, arbiters, asked)?;
-                Ok(RemoveStep::Did(label))
+            Walked::Ended { path, refused } => {
+                self.after_end(alloc)?;
+                let device = Asked { serial, path };
+                let minor = walk.minor();
+                Ok(RemoveStep::Did(end_request(minor, refused, device, tree, relations, arbiters)))
             }
             Walked::On(label) => {
                 self.walk = walk;
@@ -116,10 +97,10 @@ impl Surprise {
     ) -> Result<RemoveStep, WantOfMemory>
         requires there { IsSome (first_node tree.old.nodes self.old.todo) }
         requires under_way { is_under_way self.old.stage ≡ true }
-        requires goes { is_waiting (surprise_walk self.old.stage) ≡ false }
-        requires settles { self.old.stage ≡ Records.SurpriseStage.Settling → IfSome (first_node tree.old.nodes self.old.todo) (IsStripped tree.old.nodes) }
+        requires goes { is_waiting self.old.walk ≡ false }
+        requires settles { self.old.stage ≡ Records.Stage.Settling → IfSome (first_node tree.old.nodes self.old.todo) (IsStripped tree.old.nodes) }
         requires mirrored { IsMirrored tree.old.nodes arbiters.old }
-        ensures surprises { IfOk result (λ step. (handles : List Records.Handle) → Surprises tree.old.nodes relations.old (R.rows rack.old) self.old in_world handles step tree.new.nodes relations.new (R.rows rack.new) self.new) }
+        ensures surprises { IfOk result (λ step. (handles : List Records.Handle) → JobSteps Course.Surprising tree.old.nodes relations.old (R.rows rack.old) in_world handles self.old step tree.new.nodes relations.new (R.rows rack.new) self.new) }
         ensures next { tree.new.next ≡ tree.old.next }
         ensures mirrors { KeepsMirror tree.old.nodes arbiters.old tree.new.nodes arbiters.new }
         ensures surprise { OnErr result (self.new ≡ self.old) }
@@ -156,9 +137,9 @@ impl Surprise {
         requires there { HasNext tree.old.nodes self.old self.old.stage }
         requires direct { DirectSays tree.old.nodes relations.old self.old self.old.stage }
         requires settles { SettlesStripped tree.old.nodes relations.old self.old handles.now self.old.stage }
-        requires goes { is_waiting (surprise_walk self.old.stage) ≡ false }
+        requires goes { is_waiting self.old.walk ≡ false }
         requires mirrored { IsMirrored tree.old.nodes arbiters.old }
-        ensures surprises { IfOk result (λ step. Surprises tree.old.nodes relations.old (R.rows rack.old) self.old in_world handles.now step tree.new.nodes relations.new (R.rows rack.new) self.new) }
+        ensures surprises { IfOk result (λ step. JobSteps Course.Surprising tree.old.nodes relations.old (R.rows rack.old) in_world handles.now self.old step tree.new.nodes relations.new (R.rows rack.new) self.new) }
         ensures next { tree.new.next ≡ tree.old.next }
         ensures mirrors { KeepsMirror tree.old.nodes arbiters.old tree.new.nodes arbiters.new }
         ensures surprise { OnErr result (self.new ≡ self.old) }

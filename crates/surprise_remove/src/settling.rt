@@ -4,7 +4,6 @@ ghost use Rattle.pnp_model.specs.Surprises.{end_of, finish_on};
 ghost use Rattle.trial_journal.specs.ByKind as ByKind;
 ghost use Rattle.device_holdings.specs.Mirrors.{KeepsMirror};
 ghost use Rattle.operation_frame.specs.Nodes.{IsStripped};
-ghost use Rattle.pnp_labels.specs.declared.label.OpKind.{OpKind};
 ghost use Rattle.pnp_labels.specs.declared.label.Label.{Label};
 ghost use Rattle.surprise_remove.specs.Parts.{SettlesFor};
 
@@ -66,7 +65,7 @@ impl Surprise {
 
     /// The line of the end: whether somebody stayed behind.
     pub(crate) fn end_line(&self, alloc: Global) -> Result<Label, WantOfMemory>
-        ensures { IfOk result (λ label. label ≡ Label.End OpKind.Surprise self.now.path (end_of self.now.behind)) }
+        ensures { IfOk result (λ label. label ≡ Label.End self.now.kind self.now.path (end_of self.now.behind)) }
     {
         let path = self.path.copy(alloc)?;
         let result = if self.behind.len() == 0 {

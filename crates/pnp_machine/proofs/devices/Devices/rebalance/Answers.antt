@@ -3,7 +3,7 @@ use Rattle.operation_frame.proofs.Requests.{ok_then}
 use Rattle.rebalance.specs.Steps as rebalances
 use Rattle.pnp_machine.specs.Devices.{Devices}
 use Rattle.pnp_machine.specs.Doings.{Rebalances, core_with}
-use Rattle.pnp_machine.proofs.ActSteps.{nodes_alone}
+use Rattle.pnp_machine.proofs.ActSteps.{beside_stays}
 use Rattle.pnp_machine.proofs.Joins.{kept_acted}
 use Rattle.pnp_machine.proofs.devices.Devices.rebalance.Goals as goal
 
@@ -23,4 +23,4 @@ returns-clause-rebalances g c =
     let new : Devices = record { world = s.world; tree = c.next.new.tree; relations = s.relations; reserved = s.reserved; windows = s.bridges; handles = s.handles } in
     subst (λ (d : Devices). IfOk c.next.result (λ step. Rebalances c.args.budget d rack r step new later c.next.new.self)) c.self.view_is
     (ok_then (λ step. rebalances.Rebalances s.tree.nodes s.arbiters rack r c.args.budget step c.next.new.tree.nodes later c.next.new.self) (λ step. Rebalances c.args.budget ds rack r step new later c.next.new.self)
-    (λ step h. (h (core_with ds rack) c.self.invariant.mirrors, nodes_alone ds c.next.new.tree c.next.ensures.next)) c.next.result c.next.ensures.rebalances)
+    (λ step h. ((λ in_world. h (core_with ds rack) in_world s.handles c.self.invariant.mirrors), beside_stays ds c.next.new.tree s.relations c.next.ensures.next)) c.next.result c.next.ensures.rebalances)

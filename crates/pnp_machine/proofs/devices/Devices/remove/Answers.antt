@@ -1,6 +1,7 @@
-use Rattle.std.proofs.Common.{IfOk, subst}
+use Rattle.std.proofs.Common.{IfOk, false, subst}
+use Rattle.pnp_model.specs.Records.{Course}
+use Rattle.operation_frame.specs.Steps.{JobSteps}
 use Rattle.operation_frame.proofs.Requests.{ok_then}
-use Rattle.query_remove.specs.Steps as removes
 use Rattle.pnp_machine.specs.Devices.{Devices}
 use Rattle.pnp_machine.specs.Doings.{Removes, core_with}
 use Rattle.pnp_machine.proofs.ActSteps.{beside_stays}
@@ -13,8 +14,8 @@ returns-clause-removes g c =
     let rack = g.R.Drivers.rows c.args.rack.now in
     let later = g.R.Drivers.rows c.next.new.rack in
     let new : Devices = record { world = s.world; tree = c.next.new.tree; relations = c.next.new.relations; reserved = s.reserved; windows = s.bridges; handles = s.handles } in
-    let o = c.args.removal.now in
-    subst (λ (d : Devices). IfOk c.next.result (λ step. Removes d rack o step new later c.next.new.self)) c.self.view_is
-    (ok_then (λ step. removes.Removes s.tree.nodes s.relations rack s.handles o step c.next.new.tree.nodes c.next.new.relations later c.next.new.self)
-    (λ step. Removes ds rack o step new later c.next.new.self)
+    let j = c.args.removal.now in
+    subst (λ (d : Devices). IfOk c.next.result (λ step. Removes Course.Removing d rack false j step new later c.next.new.self)) c.self.view_is
+    (ok_then (λ step. JobSteps Course.Removing s.tree.nodes s.relations rack false s.handles j step c.next.new.tree.nodes c.next.new.relations later c.next.new.self)
+    (λ step. Removes Course.Removing ds rack false j step new later c.next.new.self)
     (λ step h. (h (core_with ds rack), beside_stays ds c.next.new.tree c.next.new.relations c.next.ensures.next)) c.next.result c.next.ensures.removes)

@@ -17,4 +17,4 @@ returns-clause-done g c =
     change_begun c.args.self.now c.run.new.self c.run.result c.in_ok-label.label c.run.ensures.label c.self.inside.devices c.in-Some.wanted c.in_ok-label.change
     (node_at c.args.serial c.args.self.now.core.nodes) (ap (λ (x : State). x.world) c.self.view_is) nodes (ap (λ (x : State). x.windows) c.self.view_is)
     (sym c.in-Some.is ∙ c.in_ok-wanted.ensures ∙ ap (λ x. wanted_at c.self.inside.devices (node_at c.args.serial x)) nodes)
-    (rw (← c.self.view_is) c.in_ok-label.ensures) c.run.ensures.state
+    (rw (← c.self.view_is) (c.in_ok-label.ensures c.self.inside.devices.relations)) c.run.ensures.state

@@ -1,5 +1,4 @@
 use Rattle.std.proofs.Common.{sym, ap, ◌∙◌, option_map}
-use Rattle.pnp_model.specs.Machine.{operation_walk}
 use Rattle.pnp_model.specs.Records.{State}
 use Rattle.pnp_machine.specs.Operations.{operation_of}
 use Rattle.pnp_machine.proofs.Turns.{waits_not}
@@ -10,5 +9,5 @@ returns-in-None g c =
     let runs = operation_of c.in-Some.operation in (
       runs,
       ap (λ (s : State). s.operation) (sym c.self.view_is) ∙ ap (option_map operation_of) c.in-Some.is,
-      waits_not (operation_walk runs) (sym c.in-None.is ∙ c.waits.ensures),
+      waits_not runs.walk (sym c.in-None.is ∙ c.waits.ensures),
     )

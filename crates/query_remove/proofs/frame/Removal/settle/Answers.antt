@@ -1,6 +1,6 @@
 use Rattle.std.proofs.Common.{ℕ, ◌∙◌, ◌==◌, ◌&&◌, Some, slice_get, ap, sym, subst}
 use Rattle.pnp_model.specs.Cores.{is_node, node_at, with_problem}
-use Rattle.pnp_model.specs.Records.{Removal}
+use Rattle.pnp_model.specs.Records.{Job}
 use Rattle.devnode_tree.specs.Trees.{Tree, CanLeave}
 use Rattle.operation_frame.specs.Nodes.{HoldsNothing}
 use Rattle.operation_frame.proofs.Queues.{first_is}
@@ -15,19 +15,19 @@ pub leave-requires-clause-bare : goal.leave-requires-clause-bare
 leave-requires-clause-bare c =
     let nodes = c.args.tree.now.nodes in
     subst (λ (k : ℕ). HoldsNothing (node_at k nodes)) (sym c.in_ok-device.ensures.serial)
-    (stripped_at nodes c.args.self.now.todo c.first.result c.at.result.now (sym (ap (λ (r : Removal). slice_get r.todo 0) (sym c.self.view_is) ∙ c.first.ensures)) c.at.ensures.node c.requires.settles).1
+    (stripped_at nodes c.args.self.now.todo c.first.result c.at.result.now (sym (ap (λ (r : Job). slice_get r.todo 0) (sym c.self.view_is) ∙ c.first.ensures)) c.at.ensures.node c.requires.settles).1
 
 pub leave-requires-then-is_eject-clause-may_leave : goal.leave-requires-then-is_eject-clause-may_leave
 leave-requires-then-is_eject-clause-may_leave c =
     let nodes = c.args.tree.now.nodes in
     subst (λ (k : ℕ). CanLeave k nodes) (sym c.in_ok-device.ensures.serial)
-    (stripped_at nodes c.args.self.now.todo c.first.result c.at.result.now (sym (ap (λ (r : Removal). slice_get r.todo 0) (sym c.self.view_is) ∙ c.first.ensures)) c.at.ensures.node c.requires.settles).0
+    (stripped_at nodes c.args.self.now.todo c.first.result c.at.result.now (sym (ap (λ (r : Job). slice_get r.todo 0) (sym c.self.view_is) ∙ c.first.ensures)) c.at.ensures.node c.requires.settles).0
 
 pub leave-requires-then-is_eject-clause-bare : goal.leave-requires-then-is_eject-clause-bare
 leave-requires-then-is_eject-clause-bare c =
     let nodes = c.args.tree.now.nodes in
     subst (λ (k : ℕ). HoldsNothing (node_at k nodes)) (sym c.in_ok-device.ensures.serial)
-    (stripped_at nodes c.args.self.now.todo c.first.result c.at.result.now (sym (ap (λ (r : Removal). slice_get r.todo 0) (sym c.self.view_is) ∙ c.first.ensures)) c.at.ensures.node c.requires.settles).1
+    (stripped_at nodes c.args.self.now.todo c.first.result c.at.result.now (sym (ap (λ (r : Job). slice_get r.todo 0) (sym c.self.view_is) ∙ c.first.ensures)) c.at.ensures.node c.requires.settles).1
 
 pub returns-then-not-is_target-clause-settles : goal.returns-then-not-is_target-clause-settles
 returns-then-not-is_target-clause-settles c =
@@ -36,7 +36,7 @@ returns-then-not-is_target-clause-settles c =
     let node = c.at.result.now in
     let device = c.in_ok-device.device in
     let serial = c.in_ok-device.ensures.serial in
-    let at = first_is nodes o.todo c.first.result (ap (λ (r : Removal). slice_get r.todo 0) (sym c.self.view_is) ∙ c.first.ensures) ∙ sym c.at.ensures.node in
+    let at = first_is nodes o.todo c.first.result (ap (λ (r : Job). slice_get r.todo 0) (sym c.self.view_is) ∙ c.first.ensures) ∙ sym c.at.ensures.node in
     let outside = sym (ap (λ (k : ℕ). has o.set k) c.in_ok-device.ensures.parent) ∙ (sym c.removes.ensures ∙ c.if-removes.false) in
     let other = sym (ap (λ (k : ℕ). k == o.target) serial) ∙ (sym c.is_target.ensures ∙ c.if-not-is_target.true) in
     let problem = c.problem_of-problem.ensures ∙ ap (λ (k : ℕ). problem_if (is_eject o.kind && has o.ejecting k)) serial in

@@ -1,41 +1,43 @@
-use Rattle.std.proofs.Common.{true, ◌∙◌, ap, sym}
-use Rattle.pnp_model.specs.Records as Records
-use Rattle.pnp_model.specs.Records.{Rebalance}
+use Rattle.std.proofs.Common.{◌∙◌, Some, ap, subst, sym}
+use Rattle.pnp_labels.specs.declared.words.Minor.{Minor}
 use Rattle.pnp_model.specs.Cores.{node_at}
-use Rattle.pnp_model.specs.Rebalances.{take_back, cancel_step, stop_step}
+use Rattle.pnp_model.specs.Records.{Job}
+use Rattle.pnp_laws.specs.Kept.{IsOwn}
+use Rattle.operation_frame.specs.Walks.{EndsFor}
 use Rattle.rebalance.specs.Stages.{stage_of}
-use Rattle.operation_frame.specs.Steps.{MovesFor}
-use Rattle.rebalance.specs.Steps.{Moved}
-use Rattle.rebalance.specs.Parts.{end_move}
-use Rattle.rebalance.specs.declared.next.RebalanceStep.TheVariants as steps
-use Rattle.operation_frame.proofs.Requests.{ok_then}
-use Rattle.rebalance.proofs.Moving.{moves_as, as_taken, as_cancelled, as_stopped}
+use Rattle.rebalance.proofs.Moving.{only_restarting, own_start, stands_answered, stands_cancelled, stands_restarted, stands_stopped, stands_taken}
 use Rattle.rebalance.proofs.frame.Rebalance.end_request.Goals as goal
+use Rattle.rebalance.proofs.frame.Rebalance.end_request.Goals.{in-Asking+in_ok-take_answer-in-Asking, in-TakingBack+in_ok-take_back-in-TakingBack, in-Cancelling, in-Stopping}
 
-pub returns-in-TakingBack-clause-ended : goal.returns-in-TakingBack-clause-ended
-returns-in-TakingBack-clause-ended c =
+pub returns-in_default : goal.returns-in_default
+returns-in_default c =
     let r = c.args.self.now in
-    let w = c.self.inside.walk.walk in
     let nodes = c.args.tree.now.nodes in
-    let x = node_at c.args.serial nodes in
-    let stage = ap (λ (r : Rebalance). r.stage) (sym c.self.view_is) ∙ ap (λ s. stage_of s w) c.in-TakingBack.is in
-    ok_then (λ label. (v : Records.Walk) → MovesFor Moved x (λ c n. take_back c r n v true) nodes (steps.Did label) c.take_back.new.tree.nodes c.take_back.new.self) _
-    (λ label h. moves_as x _ _ nodes (steps.Did label) c.take_back.new.tree.nodes c.take_back.new.self (as_taken r c.args.refused w stage) (h w)) c.take_back.result c.take_back.ensures.taken
+    let k = c.args.device.serial in
+    let s = c.in_default in
+    let asked = subst (λ (x : Job). IsOwn x.walk (Some c.args.minor)) (sym c.self.view_is) c.requires.asked in
+    let restarts = only_restarting c.self.inside.stage c.self.inside.walk.walk c.args.minor s.not-Asking s.not-TakingBack s.not-Cancelling s.not-Stopping asked in
+    let minor = own_start _ c.args.minor (stage_of c.self.inside.stage) asked c.self.invariant (ap stage_of restarts) in
+    let stage = sym (ap (λ (x : Job). x.stage) c.self.view_is) ∙ ap stage_of restarts in
+    let ended = c.end-label.ensures.ended in
+    record {
+      ended = ended;
+      stands = stands_restarted nodes k r c.restart.new.self c.args.refused c.end-label.new.tree.nodes c.args.device.path c.end-label.result stage
+          (subst (λ (m : Minor). EndsFor (node_at k nodes) m c.args.refused c.args.device.path nodes c.end-label.result c.end-label.new.tree.nodes) minor ended) c.restart.ensures.failed c.restart.ensures.started;
+      whole = c.end-label.ensures.whole;
+      rebalance = tt;
+      tree = tt;
+    }
 
-pub returns-in-Cancelling-clause-ended : goal.returns-in-Cancelling-clause-ended
-returns-in-Cancelling-clause-ended c =
+pub returns-clause-stands : goal.returns-clause-stands
+returns-clause-stands c =
     let r = c.args.self.now in
-    let w = c.self.inside.walk.walk in
     let nodes = c.args.tree.now.nodes in
-    let stage = ap (λ (r : Rebalance). r.stage) (sym c.self.view_is) ∙ ap (λ s. stage_of s w) c.in-Cancelling.is in
-    moves_as (node_at c.args.serial nodes) (λ c n. cancel_step c r n w true) (end_move r r.stage c.args.refused) nodes (steps.Did c.cancel.result) c.cancel.new.tree.nodes c.cancel.new.self
-    (as_cancelled r c.args.refused w stage) (c.cancel.ensures.cancelled w)
-
-pub returns-in-Stopping-clause-ended : goal.returns-in-Stopping-clause-ended
-returns-in-Stopping-clause-ended c =
-    let r = c.args.self.now in
-    let w = c.self.inside.walk.walk in
-    let nodes = c.args.tree.now.nodes in
-    let stage = ap (λ (r : Rebalance). r.stage) (sym c.self.view_is) ∙ ap (λ s. stage_of s w) c.in-Stopping.is in
-    moves_as (node_at c.args.serial nodes) (λ c n. stop_step c r n w true) (end_move r r.stage c.args.refused) nodes (steps.Did c.stop.result) c.stop.new.tree.nodes c.stop.new.self
-    (as_stopped r c.args.refused w stage) (c.stop.ensures.stopped w)
+    let k = c.args.device.serial in
+    let seen = sym (ap (λ (x : Job). x.stage) c.self.view_is) in
+    elim c.match-self.branch [
+      | in-Asking+in_ok-take_answer-in-Asking w ↦ rw w.self-is (stands_answered nodes k r w.take_answer.new.self c.args.refused (seen ∙ ap stage_of w.in-Asking.is) w.in_ok-take_answer-in-Asking.ensures.answered)
+      | in-TakingBack+in_ok-take_back-in-TakingBack w ↦ rw w.self-is (stands_taken nodes k r w.take_back.new.self c.args.refused (seen ∙ ap stage_of w.in-TakingBack.is) w.in_ok-take_back-in-TakingBack.ensures.taken)
+      | in-Cancelling w ↦ rw w.self-is (stands_cancelled nodes k r w.cancel.new.self c.args.refused (seen ∙ ap stage_of w.in-Cancelling.is) w.cancel.ensures)
+      | in-Stopping w ↦ rw w.self-is (stands_stopped nodes k r w.stop.new.self c.args.refused (seen ∙ ap stage_of w.in-Stopping.is) w.stop.ensures)
+    ]

@@ -1,6 +1,6 @@
-use Rattle.std.proofs.Common.{[], ◌∷◌, ap}
+use Rattle.std.proofs.Common.{Some, [], ◌∷◌, ap}
 use Rattle.pnp_model.specs.Cores.{node_at}
-use Rattle.pnp_model.specs.Records.{Finish, FinishStage}
+use Rattle.pnp_model.specs.Records.{Job, Stage}
 use Rattle.device_stack.specs.Standing.{Standing}
 use Rattle.relations.specs.Leaving.{base}
 use Rattle.surprise_remove.proofs.FinishMoves.{over_is, ready_there, asks_first, taken_is}
@@ -8,7 +8,7 @@ use Rattle.surprise_remove.proofs.finish.Finish.take.Goals as goal
 
 pub returns-in_default-clause-takes : goal.returns-in_default-clause-takes
 returns-in_default-clause-takes g c =
-    over_is c.args.tree.now.nodes c.args.relations.now (g.R.Drivers.rows c.args.rack.now) c.args.self.now c.args.handles.now c.requires c.in_ok-end_line.field-0 c.in_ok-end_line.ensures c.in_default.ensures.device
+    over_is c.args.tree.now.nodes c.args.relations.now (g.R.Drivers.rows c.args.rack.now) c.args.self.now c.args.handles.now c.requires.stage c.requires.none c.in_ok-end_line.field-0 c.in_ok-end_line.ensures c.in_default.ensures.device
 
 pub pass_on-requires-clause-there : goal.pass_on-requires-clause-there
 pass_on-requires-clause-there g c =
@@ -26,6 +26,6 @@ unreachable-requires g c =
 pub returns-clause-takes : goal.returns-clause-takes
 returns-clause-takes g c =
     let k = c.in-Some.serial in
-    taken_is c.args.tree.now.nodes c.args.relations.now (g.R.Drivers.rows c.args.rack.now) (g.R.Drivers.rows c.pass_on.new.rack) c.args.self.now _ c.args.handles.now c.requires k c.begin-walk.result.walk c.pass_on.new.walk.walk c.in-On.label
-    c.in-Some.ensures.device (ap (λ (s : Standing). s.walk) c.begin-walk.ensures) (rw c.in-On.is at c.in_ok-label.ensures.passed)
-    (ap (λ (r : Finish). record r { todo = k ∷ []; stage = FinishStage.Removing c.pass_on.new.walk.walk }) c.self.view_is)
+    taken_is c.args.tree.now.nodes c.args.relations.now (g.R.Drivers.rows c.args.rack.now) (g.R.Drivers.rows c.pass_on.new.rack) c.args.self.now _ c.args.handles.now c.requires.stage c.requires.none k c.begin-walk.result.walk c.pass_on.new.walk.walk
+    c.in-On.label c.in-Some.ensures.device (ap (λ (s : Standing). s.walk) c.begin-walk.ensures) (rw c.in-On.is at c.in_ok-label.ensures.passed)
+    (ap (λ (r : Job). record r { todo = k ∷ []; stage = Stage.Removing; walk = Some c.pass_on.new.walk.walk }) c.self.view_is)

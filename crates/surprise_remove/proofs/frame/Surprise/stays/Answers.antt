@@ -1,6 +1,6 @@
 use Rattle.std.proofs.Common.{◌≡◌, ◌∙◌, false, sym, ap}
 use Rattle.pnp_model.specs.Tests.{has}
-use Rattle.pnp_model.specs.Records.{Surprise}
+use Rattle.pnp_model.specs.Records.{Job}
 use Rattle.pnp_model.specs.Handles.{is_open}
 use Rattle.relations.specs.Leaving.{below}
 use Rattle.surprise_remove.specs.Steps.{stays}
@@ -20,4 +20,4 @@ returns-else-is_open c =
     ] in
     stays_so nodes rs (the_view c.self.inside) c.args.handles.now c.args.serial c.has_below.result none.0 none.1
     (c.has_below.ensures ∙ sym (any-reverse c.self.inside.behind (below nodes rs c.args.serial)))
-    ∙ ap (λ (o : Surprise). stays nodes rs o c.args.handles.now c.args.serial) c.self.view_is
+    ∙ ap (λ (o : Job). stays nodes rs o c.args.handles.now c.args.serial) c.self.view_is

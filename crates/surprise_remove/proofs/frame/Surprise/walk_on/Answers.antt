@@ -1,27 +1,47 @@
-use Rattle.std.proofs.Common.{◌∙◌, slice_get, ap, sym}
+use Rattle.std.proofs.Common.{◌∙◌, Some, is_some, slice_get, ap, sym, subst}
 use Rattle.pnp_model.specs.Cores.{node_at}
-use Rattle.pnp_model.specs.Records.{Surprise}
-use Rattle.surprise_remove.specs.Stages.{stage_of}
-use Rattle.surprise_remove.specs.Parts.{is_walking}
-use Rattle.operation_frame.proofs.Requests.{on_err, ended_path, ended_same}
-use Rattle.surprise_remove.proofs.Stepping.{goes_on, ends_so}
+use Rattle.pnp_labels.specs.declared.words.Minor.{Minor}
+use Rattle.pnp_model.specs.Records.{Job, Walk, Course}
+use Rattle.operation_frame.specs.Walks.{EndedFor}
+use Rattle.operation_frame.proofs.Requests.{on_err, ended_path, ended_same, walks_with}
+use Rattle.operation_frame.proofs.Stepping.{asks_so, ended_so}
+use Rattle.surprise_remove.specs.contracts.frame.Surprise.{the_view}
+use Rattle.surprise_remove.specs.Stages.{is_walking}
+use Rattle.surprise_remove.proofs.Moving.{stands_so}
 use Rattle.surprise_remove.proofs.frame.Surprise.walk_on.Goals as goal
 
 pub end_request-requires-clause-path : goal.end_request-requires-clause-path
 end_request-requires-clause-path g c = ended_path (node_at c.first-serial.result c.args.tree.now.nodes) _ _ _ _ c.in-Ended.path c.in-Ended.refused (rw c.in-Ended.is at c.in_ok-path.ensures.passed)
 
-pub returns-in_err-label-in-Ended-clause-rack : goal.returns-in_err-label-in-Ended-clause-rack
-returns-in_err-label-in-Ended-clause-rack g c =
-    on_err _ c.from_residual-in_err-label-in-Ended.result (ended_same (node_at c.first-serial.result c.args.tree.now.nodes) _ _ _ _ c.in-Ended.path c.in-Ended.refused (rw c.in-Ended.is at c.in_ok-path.ensures.passed)).0
-
 pub returns-in-On-clause-surprises : goal.returns-in-On-clause-surprises
-returns-in-On-clause-surprises g c handles =
-    goes_on c.args.tree.now.nodes c.args.relations.now (g.R.Drivers.rows c.args.rack.now) (g.R.Drivers.rows c.pass_on.new.rack) c.args.self.now c.args.in_world handles c.first-serial.result c.self.inside.stage c.self.inside.walk.walk c.pass_on.new.walk.walk
-    (ap (λ (r : Surprise). slice_get r.todo 0) (sym c.self.view_is) ∙ c.first-serial.ensures) (sym (ap (λ (r : Surprise). r.stage) c.self.view_is)) (ap (λ (r : Surprise). is_walking r.stage) c.self.view_is ∙ c.requires.walking) c.in-On.label _ (rw c.in-On.is at c.in_ok-path.ensures.passed)
-    (ap (λ (r : Surprise). record r { stage = stage_of c.self.inside.stage c.pass_on.new.walk.walk }) c.self.view_is)
+returns-in-On-clause-surprises g c =
+    let o = c.args.self.now in
+    let s = c.self.inside.stage in
+    let w = c.self.inside.walk.walk in
+    let w' = c.pass_on.new.walk.walk in
+    let walking = ap (λ (r : Job). is_some r.walk) c.self.view_is ∙ c.requires.walking in
+    λ handles.
+    asks_so Course.Surprising c.args.tree.now.nodes c.args.relations.now (g.R.Drivers.rows c.args.rack.now) (g.R.Drivers.rows c.pass_on.new.rack) c.args.in_world handles o _ c.first-serial.result
+    (ap (λ (r : Job). slice_get r.todo 0) (sym c.self.view_is) ∙ c.first-serial.ensures) w w' (ap (λ (r : Job). r.walk) (sym c.self.view_is) ∙ walks_with (is_walking s) w w walking) c.in-On.label (rw c.in-On.is at c.in_ok-path.ensures.passed)
+    (ap (λ v. record (the_view c.self.inside) { walk = v }) (walks_with (is_walking s) w w' walking) ∙ ap (λ (r : Job). record r { walk = Some w' }) c.self.view_is)
 
-pub returns-in_ok-label-in-Ended-clause-surprises : goal.returns-in_ok-label-in-Ended-clause-surprises
-returns-in_ok-label-in-Ended-clause-surprises g c handles =
-    ends_so c.args.tree.now.nodes c.args.relations.now (g.R.Drivers.rows c.args.rack.now) (g.R.Drivers.rows c.pass_on.new.rack) c.args.self.now c.args.in_world handles c.first-serial.result c.self.inside.stage c.self.inside.walk.walk c.pass_on.new.walk.walk
-    (ap (λ (r : Surprise). slice_get r.todo 0) (sym c.self.view_is) ∙ c.first-serial.ensures) (sym (ap (λ (r : Surprise). r.stage) c.self.view_is)) (ap (λ (r : Surprise). is_walking r.stage) c.self.view_is ∙ c.requires.walking) c.in_ok-label-in-Ended.label c.end_request.new.self c.in-Ended.path c.in-Ended.refused c.end_request.new.tree.nodes c.end_request.new.relations (rw c.in-Ended.is at c.in_ok-path.ensures.passed)
-    c.in_ok-label-in-Ended.ensures.ended
+pub returns-in_err-after_end-in-Ended-clause-rack : goal.returns-in_err-after_end-in-Ended-clause-rack
+returns-in_err-after_end-in-Ended-clause-rack g c =
+    on_err _ c.from_residual-in_err-after_end-in-Ended.result (ended_same (node_at c.first-serial.result c.args.tree.now.nodes) _ _ _ _ c.in-Ended.path c.in-Ended.refused (rw c.in-Ended.is at c.in_ok-path.ensures.passed)).0
+
+pub returns-in_ok-after_end-in-Ended-clause-surprises : goal.returns-in_ok-after_end-in-Ended-clause-surprises
+returns-in_ok-after_end-in-Ended-clause-surprises g c =
+    let nodes = c.args.tree.now.nodes in
+    let rs = c.args.relations.now in
+    let o = c.args.self.now in
+    let k = c.first-serial.result in
+    let s = c.self.inside.stage in
+    let w = c.self.inside.walk.walk in
+    let refused = c.in-Ended.refused in
+    let passed = rw c.in-Ended.is at c.in_ok-path.ensures.passed in
+    let minor = c.minor-minor.ensures ∙ ap (λ (v : Walk). v.minor) (ended_same (node_at k nodes) _ _ _ _ c.in-Ended.path refused passed).1 in
+    let ended = subst (λ (m : Minor). EndedFor (node_at k nodes) m refused nodes rs c.end_request.result c.end_request.new.tree.nodes c.end_request.new.relations) minor c.end_request.ensures.ended in
+    λ handles.
+    ended_so Course.Surprising nodes c.end_request.new.tree.nodes rs c.end_request.new.relations (g.R.Drivers.rows c.args.rack.now) (g.R.Drivers.rows c.pass_on.new.rack) c.args.in_world handles o c.after_end.new.self k
+    (ap (λ (r : Job). slice_get r.todo 0) (sym c.self.view_is) ∙ c.first-serial.ensures) w c.pass_on.new.walk.walk (ap (λ (r : Job). r.walk) (sym c.self.view_is) ∙ walks_with (is_walking s) w w (ap (λ (r : Job). is_some r.walk) c.self.view_is ∙ c.requires.walking))
+    c.end_request.result c.in-Ended.path refused passed ended (stands_so (node_at c.first-serial.result c.args.tree.now.nodes) c.args.tree.now.nodes o c.after_end.new.self c.args.in_world c.in-Ended.refused c.in_ok-after_end-in-Ended.ensures.stands)
