@@ -3,6 +3,7 @@ ghost use Rattle.pnp_model.specs.Cores.{node_at};
 ghost use Rattle.pnp_model.specs.Endings.{ending, joined};
 ghost use Rattle.pnp_model.specs.Events.{happens};
 ghost use Rattle.pnp_model.specs.Machine.{IsQuiet};
+ghost use Rattle.pnp_laws.specs.Stacks.{IsNamed};
 ghost use Rattle.driver_rack.specs.Rows.{name_in};
 ghost use Rattle.free_model.specs.Asks.{next_query};
 ghost use Rattle.free_model.specs.Frees.{free_opening};
@@ -113,6 +114,7 @@ impl FreeRun {
     pub fn query(&self) -> Option<Query<'_>>
         ensures query { option_map query_of result ≡ next_query self.now.state }
         ensures node { IfSome result (λ query. node_at query.node.now.serial self.now.state.core.nodes ≡ Some query.node.now) }
+        ensures named { IfSome result (λ query. IsNamed self.now.state.core.rack query.driver) }
     {
         self.manager.query()
     }

@@ -7,6 +7,7 @@ ghost use Rattle.pnp_model.specs.Runs.{opening};
 ghost use Rattle.pnp_model.specs.States.{drop_task};
 ghost use Rattle.pnp_model.specs.Trees.{leaving};
 ghost use Rattle.pnp_laws.specs.Printed.{TreeIsPrinted};
+ghost use Rattle.pnp_laws.specs.Stacks.{IsNamed};
 ghost use Rattle.devnode_tree.specs.Trees.{Tree};
 ghost use Rattle.driver_rack.specs.Rows.{name_in};
 ghost use Rattle.free_model.specs.Asks.{next_query};
@@ -160,12 +161,13 @@ impl<R: Drivers> Manager<R> {
     }
 
     /// What the next step asks, of which driver and for which device; none exactly where the next step asks nobody, or none is
-    /// next. A step asks one driver at most, once. It takes no memory. Cost: the logarithms of the numbers of nodes, of starts
+    /// next. A step asks one driver at most, once, and one that has a name. It takes no memory. Cost: the logarithms of the numbers of nodes, of starts
     /// and of devices with an open handle; where a surprise removal comes to a device also what depends directly on it, and
     /// where the end of surprise removals takes its next device that of `surprise_remove::ready`.
     pub fn query(&self) -> Option<Query<'_>>
         ensures query { option_map query_of result ≡ next_query self.now.state }
         ensures node { IfSome result (λ query. node_at query.node.now.serial self.now.state.core.nodes ≡ Some query.node.now) }
+        ensures named { IfSome result (λ query. IsNamed self.now.state.core.rack query.driver) }
     {
         self.machine.query()
     }
