@@ -199,17 +199,24 @@ fn go_ahead(run: &mut FreeRun, event: Option<Event>) -> Result<Ahead, WantOfMemo
     })
 }
 
+/// Whether the line is that of what was done ahead.
+fn is_due(alloc: Global, ahead: &Ahead, line: &[u8]) -> Result<bool, WantOfMemory>
+    ensures { IfOk result (λ due. IfDue due line.now ahead.now) }
+{
+    match ahead {
+        Ahead::Nothing => Ok(false),
+        Ahead::Step { label, .. } => is_line(alloc, line, label),
+        Ahead::Event { label, .. } => is_line(alloc, line, label),
+    }
+}
+
 /// Whether the line is that of what was done ahead, which then is ahead no more. After want of memory it is as before.
 fn take_ahead(alloc: Global, ahead: &mut Ahead, line: &[u8]) -> Result<bool, WantOfMemory>
     ensures due { IfOk result (λ due. IfDue due line.now ahead.old) }
     ensures after { IfOk result (λ due. ahead.new ≡ after_due due ahead.old) }
     ensures err { OnErr result (ahead.new ≡ ahead.old) }
 {
-    let due = match ahead {
-        Ahead::Nothing => false,
-        Ahead::Step { label, .. } => is_line(alloc, line, label)?,
-        Ahead::Event { label, .. } => is_line(alloc, line, label)?,
-    };
+    let due = is_due(alloc, ahead, line)?;
     if due {
         *ahead = Ahead::Nothing;
     }

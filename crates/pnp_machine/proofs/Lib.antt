@@ -26,6 +26,7 @@ pub mod StartSteps
 pub mod Settling
 pub mod JobSteps
 pub mod OperationSteps
+pub mod Asked
 pub mod EventSteps
 pub mod CommandSteps
 pub mod Completions

@@ -20,6 +20,8 @@ use Rattle.query_remove.specs.Requests as removals
 use Rattle.surprise_remove.specs.Requests as surprises
 use Rattle.surprise_remove.specs.Ready.{is_ready_at}
 use Rattle.start_sequence.specs.Steps.{first_pending}
+use Rattle.pnp_machine.specs.Devices.{Devices}
+use Rattle.pnp_machine.specs.Doings.{core_with}
 use Rattle.pnp_machine.specs.Queries.{awake_query}
 
 -- One request -----------------------------------------------------------------------------
@@ -117,7 +119,8 @@ module _ (c : Core) (handles : List Handle) (j : Job) where
   rebalance_asks of = by_walk j.walk refl
     where
       by_stage : (stage : Stage) (n : Option Node) → acts_query c handles j Course.Rebalancing stage n ≡ None
-      by_stage stage n = refl
+      by_stage Stage.Next n = refl
+      by_stage _ n = refl
 
       by_walk : (o : Option Walk) → j.walk ≡ o → Asked ≡ asks_by o (first_node c.nodes j.todo)
       by_walk (Some w) is = on_its_way w is
@@ -133,7 +136,7 @@ module _ (c : Core) (handles : List Handle) (j : Job) where
       by_stage : (stage : Stage) (n : Option Node) → acts_query c handles j Course.Removing stage n ≡ asks_by (removals.begun handles stage n) n
       by_stage Stage.Next None = refl
       by_stage Stage.Next (Some node) = by_refusal node (refuses_unasked handles node)
-      by_stage stage n = refl
+      by_stage _ n = refl
 
       by_walk : (o : Option Walk) → j.walk ≡ o → Asked ≡ asks_by (removals.request handles j o (first_node c.nodes j.todo)) (first_node c.nodes j.todo)
       by_walk (Some w) is = on_its_way w is
@@ -160,7 +163,7 @@ module _ (c : Core) (handles : List Handle) (j : Job) where
       by_stage : (stage : Stage) (n : Option Node) → acts_query c handles j Course.Surprising stage n ≡ asks_by (surprises.begun c j handles stage n) n
       by_stage Stage.Next None = refl
       by_stage Stage.Next (Some node) = by_stay node (stays_behind c j handles node.serial)
-      by_stage stage n = refl
+      by_stage _ n = refl
 
       by_walk : (o : Option Walk) → j.walk ≡ o → Asked ≡ asks_by (surprises.request c j handles o (first_node c.nodes j.todo)) (first_node c.nodes j.todo)
       by_walk (Some w) is = on_its_way w is
@@ -172,7 +175,7 @@ module _ (c : Core) (handles : List Handle) (j : Job) where
     where
       by_stage : (stage : Stage) (n : Option Node) → (stage ≡ Stage.Next → ⊥) → acts_query c handles j Course.Finishing stage n ≡ None
       by_stage Stage.Next n busy = absurd (busy refl)
-      by_stage stage n busy = refl
+      by_stage _ n busy = refl
 
       by_walk : (o : Option Walk) → j.walk ≡ o → Asked ≡ asks_by o (first_node c.nodes j.todo)
       by_walk (Some w) is = on_its_way w is
@@ -195,9 +198,54 @@ module _ (c : Core) (handles : List Handle) (j : Job) where
           where
             no_drivers : (a b d : Bool) → b ≡ false → IsTrue (a && (b && d)) → ⊥
             no_drivers true true d e h = absurd (cc)
-            no_drivers true false d e h = h
-            no_drivers false b d e h = h
+            no_drivers true false d e h = absurd (cc)
+            no_drivers false b d e h = absurd (cc)
 
         by_node : (o : Option Node) → IsTrue (is_ready_at c handles o) → ready_query o ≡ asks_by (Some (walk_of Minor.Remove)) o
         by_node None h = refl
         by_node (Some node) h = has_some node node.stack refl h
+
+-- The same of the devices ---------------------------------------------------------------------
+
+module _ (ds : Devices) (j : Job) (rack : List Driver) where
+  abbrev here : Option Node
+  here = first_node ds.tree.nodes j.todo
+
+  abbrev Told : Option Query → Type 0
+  Told q = q ≡ operation_query (core_with ds rack) ds.handles j (is_waiting j.walk)
+
+  -- by the request of the device that is next
+  by_first : (o : Option Walk) (w : Walk) (k : ℕ) (q : Option Query) → Some w ≡ o → Some k ≡ slice_get j.todo 0 → q ≡ awake_query (node_at k ds.tree.nodes) w w.waits → q ≡ asks_by o here
+  by_first o w k q is first h = h ∙ ap (λ (n : Option Node). awake_query n w w.waits) (sym (first_is ds.tree.nodes j.todo k (sym first))) ∙ ap (λ (x : Option Walk). asks_by x here) is
+
+  pub rebalance_told : course_of j.kind ≡ Course.Rebalancing → (w : Walk) (k : ℕ) (q : Option Query) → Some w ≡ j.walk → Some k ≡ slice_get j.todo 0 → q ≡ awake_query (node_at k ds.tree.nodes) w w.waits → Told q
+  rebalance_told of w k q is first h = by_first j.walk w k q is first h ∙ sym (rebalance_asks (core_with ds rack) ds.handles j of)
+
+  pub removal_told : course_of j.kind ≡ Course.Removing → (w : Walk) (k : ℕ) (q : Option Query) → Some w ≡ removals.request ds.handles j j.walk here → Some k ≡ slice_get j.todo 0 → q ≡ awake_query (node_at k ds.tree.nodes) w w.waits → Told q
+  removal_told of w k q is first h = by_first (removals.request ds.handles j j.walk here) w k q is first h ∙ sym (removal_asks (core_with ds rack) ds.handles j of)
+
+  pub surprise_told : course_of j.kind ≡ Course.Surprising → (w : Walk) (k : ℕ) (q : Option Query) → Some w ≡ surprises.request (core_with ds rack) j ds.handles j.walk here → Some k ≡ slice_get j.todo 0
+      → q ≡ awake_query (node_at k ds.tree.nodes) w w.waits → Told q
+  surprise_told of w k q is first h = by_first (surprises.request (core_with ds rack) j ds.handles j.walk here) w k q is first h ∙ sym (surprise_asks (core_with ds rack) ds.handles j of)
+
+  pub surprise_none : course_of j.kind ≡ Course.Surprising → None ≡ surprises.request (core_with ds rack) j ds.handles j.walk here → Told None
+  surprise_none of is = ap (λ (x : Option Walk). asks_by x here) is ∙ sym (surprise_asks (core_with ds rack) ds.handles j of)
+
+  -- of the end of surprise removals
+  pub finish_told : course_of j.kind ≡ Course.Finishing → (w : Walk) (k : ℕ) (q : Option Query) → Some w ≡ j.walk → Some k ≡ slice_get j.todo 0 → q ≡ awake_query (node_at k ds.tree.nodes) w w.waits → Told q
+  finish_told of w k q is first h =
+      by_first j.walk w k q is first h
+      ∙ sym (on_its_way (core_with ds rack) ds.handles j w (sym is) ∙ ap (λ (x : Option Walk). asks_by x here) is)
+
+  pub finish_unplaced : (w : Walk) → Some w ≡ j.walk → None ≡ slice_get j.todo 0 → Told None
+  finish_unplaced w is first = sym (on_its_way (core_with ds rack) ds.handles j w (sym is) ∙ ap (λ (n : Option Node). awake_query n w w.waits) (none_is ds.tree.nodes j.todo (sym first)) ∙ awake_none w w.waits)
+
+  pub finish_busy : course_of j.kind ≡ Course.Finishing → (j.stage ≡ Stage.Next → ⊥) → None ≡ j.walk → Told None
+  finish_busy of busy none = ap (λ (x : Option Walk). asks_by x here) none ∙ sym (finish_asks (core_with ds rack) ds.handles j of busy)
+
+  pub finish_over : course_of j.kind ≡ Course.Finishing → j.stage ≡ Stage.Next → None ≡ j.walk → None ≡ ready_device (core_with ds rack) ds.handles → Told None
+  finish_over of next none ready = sym (takes_none (core_with ds rack) ds.handles j of next (sym none) (sym ready))
+
+  pub finish_takes : course_of j.kind ≡ Course.Finishing → j.stage ≡ Stage.Next → None ≡ j.walk → (k : ℕ) (q : Option Query) → Some k ≡ ready_device (core_with ds rack) ds.handles → IsTrue (is_ready_at (core_with ds rack) ds.handles (node_at k ds.tree.nodes))
+      → q ≡ awake_query (node_at k ds.tree.nodes) (walk_of Minor.Remove) false → Told q
+  finish_takes of next none k q ready is h = h ∙ sym (takes_ready (core_with ds rack) ds.handles j of next (sym none) k (sym ready) is)

@@ -63,8 +63,11 @@ impl Devices {
         ensures query { (rack : List Driver) → option_map query_of result ≡ operation_query (core_with self.now rack) self.now.handles finish.now (is_waiting finish.now.walk) }
         ensures node { IfSome result (λ query. node_at query.node.now.serial self.now.tree.nodes ≡ Some query.node.now) }
     {
-        if let Some(serial) = finish.current() {
-            return self.query_by(serial, finish.walk()?);
+        if let Some(walk) = finish.walk() {
+            return self.query_by(finish.current()?, walk);
+        }
+        if finish.current().is_some() {
+            return None;
         }
         let serial = ready(&self.tree, &self.relations, &self.handles)?;
         self.query_by(serial, &Walk::begin(Minor::Remove))

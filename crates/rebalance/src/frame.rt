@@ -142,7 +142,14 @@ impl Rebalance {
         ensures request { option_map (λ w. w.walk) result ≡ self.now.walk }
         ensures course { course_of self.now.kind ≡ Course.Rebalancing }
     {
-        self.walk().copied()
+        match &self.stage {
+            Stage::Asking
+            | Stage::TakingBack
+            | Stage::Cancelling
+            | Stage::Stopping
+            | Stage::Restarting => Some(self.walk),
+            _ => None,
+        }
     }
 
     /// The device that it is for.

@@ -84,7 +84,7 @@ impl Surprise {
     /// directly. It takes no memory. Cost: the logarithm of the number of nodes, and where it is decided the number of its
     /// children and of the members that are related to it.
     pub fn request(&self, tree: &Tree, relations: &Relations, handles: &Handles) -> Option<Walk>
-        requires { DirectSays tree.now.nodes relations.now self.now self.now.stage }
+        requires { course_of self.now.kind ≡ Course.Surprising → DirectSays tree.now.nodes relations.now self.now self.now.stage }
         ensures request { (around : Core) → option_map (λ w. w.walk) result ≡ request (at_related tree.now.nodes relations.now around) self.now handles.now self.now.walk (first_node tree.now.nodes self.now.todo) }
         ensures course { course_of self.now.kind ≡ Course.Surprising }
     {
