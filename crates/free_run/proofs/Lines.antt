@@ -1,7 +1,7 @@
 -- What the line of a step tells.
-use Rattle.std.proofs.Common.{ℕ, ◌≡◌, ◌⊎◌, inl, inr, true, false, List, Option, Some, None, refl, sym, ap, ◌∙◌, subst, slice_get, option_map}
+use Rattle.std.proofs.Common.{ℕ, ◌≡◌, ◌⊎◌, inl, inr, Bool, true, false, List, [], ◌∷◌, ◌++◌, Option, Some, None, refl, sym, ap, ◌∙◌, subst, slice_get, option_map}
 use Rattle.std.proofs.lemmas.Option.{slice_get-map}
-use Rattle.pnp_labels.specs.Texts.{Text}
+use Rattle.pnp_labels.specs.Texts.{Text, label_line}
 use Rattle.pnp_labels.specs.declared.event.Event.{Event}
 use Rattle.pnp_labels.specs.declared.label.Label.{Label}
 use Rattle.pnp_labels.specs.declared.words.Answer.{Answer}
@@ -19,7 +19,18 @@ use Rattle.free_model.proofs.Racks.{faces_told, same_names, tells}
 use Rattle.free_model.proofs.SameQueries.{query_same}
 use Rattle.free_model.proofs.Ways.{KinLabel, one, asks, adds}
 use Rattle.free_run.specs.FreeRuns.{Free, MovesBy, settings}
-use Rattle.free_run.specs.Lines.{IsLine, IsMade, IsTaken, Takes, TakesEvent, TakesStep, ToldBy, Tries, answer_label}
+use Rattle.free_run.specs.Lines.{IfLine, IsLine, IsMade, IsTaken, Takes, TakesEvent, TakesStep, ToldBy, Tries, answer_label}
+
+-- a test of equal bytes tells whether it is the line of a label
+pub line_so : (b : Bool) (line own : Text) → (b ≡ true → line ≡ own) → (line ≡ own → b ≡ true) → (label : Label) → own ≡ label_line label ++ 10 ∷ [] → IfLine b line label
+line_so true line own yes only label is = yes refl ∙ is
+line_so false line own yes only label is = λ h. let bad : false ≡ true = only (h ∙ sym is) in cc
+
+-- no answer is told
+pub none_told : (f : Free) (q : Query) (line : Text) → IfLine false line (answer_label f q Ok) → IfLine false line (answer_label f q Fail) → IfLine false line (answer_label f q Pend) → ToldBy f q line None
+none_told f q line ok fail pend Ok = ok
+none_told f q line ok fail pend Fail = fail
+none_told f q line ok fail pend Pend = pend
 
 -- a driver with a name, when all answer so, answers so
 said_so : (q : Query) (rack : List Driver) (answer : Answer) → IsNamed rack q.driver → rack_reply q.what q.path (told answer rack) q.driver ≡ answer

@@ -1,5 +1,7 @@
-ghost use Rattle.std.specs.Prelude.{◌≡◌, ◌<◌, ◌^◌, true, IfOk, IfSome, IsSome, OnErr, Ok, Option, Some, None};
+ghost use Rattle.std.specs.Prelude.{◌≡◌, ◌<◌, ◌^◌, ◌++◌, ◌∷◌, [], true, IfOk, IfSome, IsSome, OnErr, Ok, Option, Some, None};
+ghost use Rattle.pnp_labels.specs.Texts.{label_line};
 ghost use Rattle.pnp_labels.specs.declared.event.Event.{Event as Happening};
+ghost use Rattle.pnp_labels.specs.declared.label.Label.{Label as Printed};
 ghost use Rattle.pnp_model.specs.Books.{name_of};
 ghost use Rattle.pnp_model.specs.Endings.{ending, joined};
 ghost use Rattle.pnp_model.specs.Machine.{IsQuiet};
@@ -74,12 +76,19 @@ impl Model for LineRun {
     ghost invariant = { λ r. IsAhead r.run r.ahead };
 }
 
+/// Whether two texts are one, of which the second is the line of a label.
+fn is_same(line: &[u8], own: &[u8]) -> bool
+    ensures { (label : Printed) → own.now ≡ label_line label ++ 10 ∷ [] → IfLine result line.now label }
+{
+    line == own
+}
+
 /// Whether this is the line of a label, with its LF. Cost: the length.
 fn is_line(alloc: Global, line: &[u8], label: &Label) -> Result<bool, WantOfMemory>
     ensures { IfOk result (λ told. IfLine told line.now label.now) }
 {
     let own = label_line(alloc, label)?;
-    Ok(own.as_slice() == line)
+    Ok(is_same(line, &own))
 }
 
 /// The name of a driver of a run, as a label has it. Cost: the length.

@@ -41,6 +41,18 @@ ready_goes works k a order first at = by_wait (is_waiting (phase_walk a.phase)) 
     by_wait true e = absurd (cc)
     by_wait false e = refl
 
+-- it is there
+pub ready_there : (works : List Activity) (k : ℕ) → InOrder 0 works → first_ready works ≡ Some k → activity_at k works ≡ None → ⊥
+ready_there works k order first gone = by_found (find is_ready works) refl first
+  where
+    by_found : (o : Option Activity) → find is_ready works ≡ o → option_map (λ (x : Activity). x.serial) o ≡ Some k → ⊥
+    by_found None e first = cc
+    by_found (Some b) e first =
+        let there : activity_at b.serial works ≡ Some b = (ready_found is_ready 0 works b order e).1 in
+        let own : b.serial ≡ k = cc in
+        let same : Some b ≡ None = sym there ∙ ap (λ (i : ℕ). activity_at i works) own ∙ gone in
+        cc
+
 none_ready : (works : List Activity) → first_ready works ≡ None → find is_ready works ≡ None
 none_ready works e = by_found (find is_ready works) refl e
   where
