@@ -1,5 +1,5 @@
 -- A step by the books changes of its rack books alone, so racks that tell one answer stay told.
-use Rattle.std.proofs.Common.{◌≡◌, List, Option, Result, Ok, Err, IfOk, refl, sym, ap, ◌∙◌}
+use Rattle.std.proofs.Common.{◌≡◌, List, Option, Result, Ok, Err, IfOk, refl, sym, ap, ◌∙◌, subst}
 use Rattle.std.specs.Prelude.{OnErr}
 use Rattle.std.specs.declared.alloc.AllocError.{AllocError}
 use Rattle.pnp_labels.specs.declared.label.Label.{Label}
@@ -13,6 +13,7 @@ use Rattle.free_model.proofs.Racks.{faces_of, same_told}
 use Rattle.free_model.proofs.Ways.{rack_by}
 use Rattle.free_model.proofs.WaySteps.{way_next}
 use Rattle.pnp_machine.specs.Machines.{Moves}
+use Rattle.pnp_machine.specs.Managers.{Manager, settings}
 use Rattle.pnp_machine.specs.declared.manager.Moved.{Moved}
 use Rattle.pnp_machine.specs.declared.manager.Moved.TheVariants.{Label as Printed, Quiet}
 use Rattle.free_run.specs.declared.told.ToldRacks.{ToldRacks}
@@ -30,7 +31,7 @@ moved_faces settings s next (Ok (Printed label)) moves err = step_faces settings
 moved_faces settings s next (Ok Quiet) moves err = ap (λ (x : State). faces x.core.rack) moves.1
 moved_faces settings s next (Err refused) moves err = ap (λ (x : State). faces x.core.rack) err
 
-pub stays_told : (settings : Settings) (s next : State) (racks : ToldRacks) → AreTold s.core.rack racks → (result : Result Moved AllocError) → IfOk result (λ moved. Moves settings s moved next)
+stays_told : (settings : Settings) (s next : State) (racks : ToldRacks) → AreTold s.core.rack racks → (result : Result Moved AllocError) → IfOk result (λ moved. Moves settings s moved next)
     → OnErr result (next ≡ s) → AreTold next.core.rack racks
 stays_told settings s next racks told result moves err =
     let same : faces s.core.rack ≡ faces next.core.rack = sym (moved_faces settings s next result moves err) in
@@ -39,3 +40,9 @@ stays_told settings s next racks told result moves err =
       fail = told.fail ∙ same_told answers.Answer.Fail s.core.rack next.core.rack same;
       pend = told.pend ∙ same_told answers.Answer.Pend s.core.rack next.core.rack same;
     }
+
+-- the same of a manager and its step
+pub manager_told : (m n : Manager) (racks : ToldRacks) → AreTold m.state.core.rack racks → (result : Result Moved AllocError) → IfOk result (λ moved. Moves (settings m) m.state moved n.state)
+    → OnErr result (n ≡ m) → AreTold n.state.core.rack racks
+manager_told m n racks told (Ok moved) moves err = stays_told (settings m) m.state n.state racks told (Ok moved) moves tt
+manager_told m n racks told (Err refused) moves err = subst (λ (x : Manager). AreTold x.state.core.rack racks) (sym err) told
