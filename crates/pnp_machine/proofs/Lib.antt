@@ -15,6 +15,8 @@ pub mod SameLaws
 pub mod RunLaws
 pub mod Groups
 pub mod Turns
+pub mod Queries
+pub mod Named
 pub mod EndLines
 pub mod ActSteps
 pub mod BeginSteps
@@ -24,6 +26,7 @@ pub mod StartSteps
 pub mod Settling
 pub mod JobSteps
 pub mod OperationSteps
+pub mod Asked
 pub mod EventSteps
 pub mod CommandSteps
 pub mod Completions
