@@ -1,2 +1,4 @@
 pub mod Refusals
 pub mod Accepted
+pub mod Keeps
+pub mod Asks
