@@ -1,9 +1,10 @@
 -- Which driver is asked, in which state of the device, and when a request has ended.
-use Rattle.std.proofs.Common.{ℕ, ◌+◌, ◌-◌, ◌<◌, ◌≤◌, ◌≡◌, ◌≢◌, ◌⊎◌, ◌&&◌, ◌||◌, inl, inr, Bool, true, false, List, [], ◌∷◌, length, nat_le, Option, Some, None, refl, sym, ap, subst, ◌∙◌, arith}
+use Rattle.std.proofs.Common.{ℕ, zero, suc, ◌+◌, ◌-◌, ◌<◌, ◌≤◌, ◌≡◌, ◌≢◌, ◌⊎◌, ◌&&◌, ◌||◌, inl, inr, Bool, true, false, List, [], ◌∷◌, ◌++◌, cond, length, nat_le, Option, Some, None, refl, sym, ap, subst, ◌∙◌, arith}
 use Rattle.std.proofs.lemmas.Bool.Decides.{nat_tests}
 use Rattle.std.proofs.lemmas.Option.{slice_get-get_or}
-use Rattle.std.specs.Prelude.{slice_index}
-use Rattle.std.specs.List.{slice_get}
+use Rattle.std.specs.Prelude.{Contains, slice_index, slice_set}
+use Rattle.std.specs.List.{find, slice_get}
+use Rattle.resource_reqs.proofs.Counts.{contains_cons, contains_nil}
 use Rattle.std.specs.Option.{option_map}
 use Rattle.resource_reqs.specs.Spelling.Answer.{assignment, no_fit, spent}
 use Rattle.pnp_labels.specs.Texts.{Text}
@@ -11,22 +12,26 @@ use Rattle.pnp_labels.specs.declared.label.Label.{Label}
 use Rattle.pnp_labels.specs.declared.label.Shown.{Shown}
 use Rattle.pnp_labels.specs.declared.states.DevState.{DevState}
 use Rattle.pnp_labels.specs.declared.states.DevState.TheVariants.{NoStack, NotStarted, Started}
+use Rattle.pnp_labels.specs.declared.event.Rule.{Rule}
+use Rattle.pnp_labels.specs.declared.words.Answer.{Answer}
+use Rattle.pnp_labels.specs.declared.words.AskWhat.{AskWhat}
 use Rattle.pnp_labels.specs.declared.words.Minor.{Minor}
 use Rattle.pnp_labels.specs.declared.words.Minor.TheVariants.{Start, QueryRemove, Remove, CancelRemove, Stop, QueryStop, CancelStop, SurpriseRemoval}
-use Rattle.pnp_model.specs.Books.{name_of}
+use Rattle.pnp_model.specs.Books.{answer_in, book_of, fits, later, name_of, rack_after, rack_reply, reply, used, with_later}
+use Rattle.pnp_model.specs.Keyed.{changed_first}
 use Rattle.pnp_model.specs.Cores.{node_at}
 use Rattle.pnp_model.specs.Diagram.{Row}
 use Rattle.pnp_model.specs.Frames.{first_node, next_driver}
 use Rattle.pnp_model.specs.Handles.{is_open}
 use Rattle.pnp_model.specs.Jobs.{JobMove}
 use Rattle.pnp_model.specs.Machine.{phase_walk}
-use Rattle.pnp_model.specs.Records.{Activity, Course, Found, Job, Node, Phase, Stage, State, Step, Walk, course_of}
+use Rattle.pnp_model.specs.Records.{Activity, Course, Driver, Found, Job, Node, Phase, Stage, State, Step, Walk, course_of}
 use Rattle.pnp_model.specs.Runs.{Entry, printed}
 use Rattle.pnp_model.specs.Runs.Entry.{Happens, Did, Declines}
 use Rattle.pnp_model.specs.Rebalances as re
 use Rattle.pnp_model.specs.States.{activity_at, is_activity}
 use Rattle.pnp_model.specs.Starts.{StartMove}
-use Rattle.pnp_model.specs.Walks.{has_ended, is_bad, is_from_bottom, may_fail, place_of, state_after, walk_of}
+use Rattle.pnp_model.specs.Walks.{has_ended, is_bad, may_fail, place_of, shown_of, state_after, walk_of}
 use Rattle.pnp_laws.specs.Effects.{Acting, PhaseOwn, Running, Turn}
 use Rattle.pnp_laws.specs.Kept.{IsGood, asked_in}
 use Rattle.pnp_laws.specs.Told.{IsWalkOf}
@@ -45,13 +50,13 @@ use Rattle.pnp_laws.proofs.Phases.{phase_found}
 use Rattle.pnp_laws.proofs.RunsStand.{Kept, reaches_kept}
 use Rattle.pnp_laws.proofs.RunsTold.{states_are_told}
 use Rattle.pnp_laws.proofs.ShutSteps.{unopen}
-use Rattle.pnp_laws.proofs.Stages.{ActStep, FinishAct, JobStep, RebalanceAct, RemovalAct, SurpriseAct, TakenStep}
+use Rattle.pnp_laws.proofs.Stages.{ActStep, FinishAct, JobStep, RebalanceAct, RemovalAct, SurpriseAct, TakenStep, asking}
 use Rattle.pnp_laws.proofs.Standing.{FinishShut, JobShut, RemovalShut, StageShut, SurpriseShut, shut_by}
 use Rattle.pnp_laws.proofs.Truths.{or_cases, or_neither, and_both}
 use Rattle.pnp_laws.proofs.Turns.{running_good}
 use Rattle.pnp_laws.proofs.TurnsKept.{running_shut}
-use Rattle.pnp_model.specs.Events as ev
-use Rattle.pnp_promises.specs.Asks.{AllAnswered, AskLaw, AsksNext, EndLaw, GoesUp, Goes_on, IsTurnOf, MayFail}
+use Rattle.pnp_model.specs.Machine as ma
+use Rattle.pnp_promises.specs.Asks.{AllAnswered, AskLaw, AsksNext, ByBook, EndLaw, GoesUp, Goes_on, IsTurnOf, MayFail, Replies, book_at, shows}
 
 -- The words ------------------------------------------------------------------------------------------
 
@@ -106,6 +111,78 @@ next_of node w more =
       next = turn_of w.asked (length node.stack) left w.minor;
       of_stack = slice_get-get_or node.stack (place_of w.minor (length node.stack) w.asked) 0 (place_below w (length node.stack) more);
     }
+
+-- By which rule a driver answers ------------------------------------------------------------------------
+
+longer : (what : AskWhat) (path : Text) (rule : Rule) (book : List Rule) (answer : Answer) (then : List Rule) → fits what path rule ≡ false → ByBook what path book answer then → ByBook what path (rule ∷ book) answer (rule ∷ then)
+longer what path rule _ _ _ e (ByBook.no_rule book none) = ByBook.no_rule (rule ∷ book) (λ r c. elim (contains_cons rule book r c) [ inl is ↦ ap (fits what path) is ∙ e | inr later ↦ none r later ])
+longer what path rule _ _ _ e (ByBook.by_rule before own after none fit) =
+    ByBook.by_rule (rule ∷ before) own after (λ r c. elim (contains_cons rule before r c) [ inl is ↦ ap (fits what path) is ∙ e | inr later ↦ none r later ]) fit
+
+by_book : (what : AskWhat) (path : Text) (book : List Rule) → ByBook what path book (reply what path book) (later what path book)
+by_book what path [] = ByBook.no_rule [] (λ r c. absurd (contains_nil r c))
+by_book what path (rule ∷ book) = by_b (fits what path rule) refl (by_book what path book)
+  where
+    by_b : (b : Bool) → fits what path rule ≡ b → ByBook what path book (reply what path book) (later what path book)
+        → ByBook what path (rule ∷ book) (answer_in (cond b (Some rule) (find (fits what path) book))) (cond b (used rule ∷ book) (rule ∷ changed_first (fits what path) used book))
+    by_b true e more = ByBook.by_rule [] rule book (λ r c. absurd (contains_nil r c)) e
+    by_b false e more = longer what path rule book (reply what path book) (later what path book) e more
+
+set_same : (rack : List Driver) (k : ℕ) (old new : Driver) → slice_get rack k ≡ Some old → slice_get (slice_set rack k new) k ≡ Some new
+set_same [] k old new at = absurd (cc)
+set_same (x ∷ xs) zero old new at = refl
+set_same (x ∷ xs) (suc k) old new at = set_same xs k old new at
+
+set_other : (rack : List Driver) (k d : ℕ) (new : Driver) → d ≢ k → slice_get (slice_set rack k new) d ≡ slice_get rack d
+set_other [] k d new other = refl
+set_other (x ∷ xs) zero zero new other = absurd (other refl)
+set_other (x ∷ xs) zero (suc d) new other = refl
+set_other (x ∷ xs) (suc k) zero new other = refl
+set_other (x ∷ xs) (suc k) (suc d) new other = set_other xs k d new (λ e. other (ap suc e))
+
+shown_is : (minor : Minor) (answer : Answer) → shown_of minor answer ≡ shows minor answer
+shown_is minor Answer.Ok = refl
+shown_is minor Answer.Pend = refl
+shown_is Start Answer.Fail = refl
+shown_is QueryRemove Answer.Fail = refl
+shown_is QueryStop Answer.Fail = refl
+shown_is _ Answer.Fail = refl
+
+-- what is known of the rack after a driver was asked
+replies : (s t : State) (what : AskWhat) (path : Text) (d : ℕ) → t.core.rack ≡ rack_after what path s.core.rack d
+    → ByBook what path (book_at s d) (rack_reply what path s.core.rack d) (book_at t d) × ((e : ℕ) → e ≢ d → slice_get t.core.rack e ≡ slice_get s.core.rack e)
+replies s t what path d is = by_driver (slice_get s.core.rack d) refl
+  where
+    by_driver : (o : Option Driver) → slice_get s.core.rack d ≡ o
+        → ByBook what path (book_at s d) (rack_reply what path s.core.rack d) (book_at t d) × ((e : ℕ) → e ≢ d → slice_get t.core.rack e ≡ slice_get s.core.rack e)
+    by_driver None e =
+        let same : t.core.rack ≡ s.core.rack = is ∙ ap (with_later what path s.core.rack d) e in (
+          subst (λ (book : List Rule). ByBook what path book (reply what path book) (book_at t d)) (sym (ap book_of e))
+              (subst (λ (book : List Rule). ByBook what path [] (reply what path []) book) (sym (ap (λ (r : List Driver). book_of (slice_get r d)) same ∙ ap book_of e)) (by_book what path [])),
+          λ i other. ap (λ (r : List Driver). slice_get r i) same,
+        )
+    by_driver (Some own) e =
+        let now : t.core.rack ≡ slice_set s.core.rack d (record own { book = later what path own.book }) = is ∙ ap (with_later what path s.core.rack d) e in (
+          subst (λ (book : List Rule). ByBook what path book (reply what path book) (book_at t d)) (sym (ap book_of e))
+              (subst (λ (book : List Rule). ByBook what path own.book (reply what path own.book) book)
+              (sym (ap (λ (r : List Driver). book_of (slice_get r d)) now ∙ ap book_of (set_same s.core.rack d own (record own { book = later what path own.book }) e))) (by_book what path own.book)),
+          λ i other. ap (λ (r : List Driver). slice_get r i) now ∙ set_other s.core.rack d i _ other,
+        )
+
+-- of the request that is asked
+module _ (s t : State) (node : Node) (w : Walk) (minor : Minor) (path : Text) (shown : Shown) (own : w.minor ≡ minor) (named : node.path ≡ path) where
+  replies_so : t.core.rack ≡ rack_after (AskWhat.Irp w.minor) node.path s.core.rack (next_driver node w) → shown ≡ shown_of w.minor (rack_reply (AskWhat.Irp w.minor) node.path s.core.rack (next_driver node w)) → Replies s minor path shown (next_driver node w) t
+  replies_so rack says =
+      let d = next_driver node w in
+      let answer = rack_reply (AskWhat.Irp w.minor) node.path s.core.rack d in
+      let facts = replies s t (AskWhat.Irp w.minor) node.path d rack in
+      record {
+        answer = answer;
+        is_shown = says ∙ shown_is w.minor answer ∙ ap (λ (m : Minor). shows m answer) own;
+        by_book = subst (λ (m : Minor). ByBook (AskWhat.Irp m) path (book_at s d) answer (book_at t d)) own
+            (subst (λ (p : Text). ByBook (AskWhat.Irp w.minor) p (book_at s d) answer (book_at t d)) named facts.0);
+        others = facts.1;
+      }
 
 -- Which labels ask nobody ------------------------------------------------------------------------------
 
@@ -165,7 +242,7 @@ module _ (minor : Minor) (path driver : Text) (shown : Shown) where
 -- Who is asked -----------------------------------------------------------------------------------------
 
 -- the first device of an operation
-front_is : (nodes : List Node) (todo : List ℕ) (node : Node) → first_node nodes todo ≡ Some node → slice_get todo 0 ≡ Some node.serial
+pub front_is : (nodes : List Node) (todo : List ℕ) (node : Node) → first_node nodes todo ≡ Some node → slice_get todo 0 ≡ Some node.serial
 front_is nodes [] node e = absurd (cc)
 front_is nodes (k ∷ ks) node e = ap Some (sym (own_serial k node nodes e))
 
@@ -223,11 +300,12 @@ module _ (s : State) (o : Job) (k : ℕ) (minor : Minor) (head : HeadIs k o.todo
   shut_course Course.Finishing is h leaves = shut_finish o.stage is h leaves
 
 module _ (s : State) (kept : Kept s) (minor : Minor) (path driver : Text) (shown : Shown) where
-  by_job : (o p : Job) (step : Step) → s.operation ≡ Some o → Turn s o p → JobStep s p step → step.label ≡ Label.Asked minor path driver shown → AsksNext s path minor driver
+  by_job : (o p : Job) (step : Step) → s.operation ≡ Some o → Turn s o p → JobStep s p step → step.label ≡ Label.Asked minor path driver shown → AsksNext s minor path driver shown step.state
   by_job o p _ runs turn (JobStep.asks node w asks) says =
       let running : Running s p = record { before = o; runs = runs; turn = turn } in
       let good = running_good s p running kept.good in
       let own : w.minor ≡ minor = cc in
+      let named : node.path ≡ path = cc in
       let n = next_of node w (asks.more kept.good.serials) in
       let head = head_found s.core.nodes p.todo node asks.first in
       let rows = (operation_asks p s.core.nodes node w good.fits asks.first asks.walk).rows in
@@ -235,7 +313,7 @@ module _ (s : State) (kept : Kept s) (minor : Minor) (path driver : Text) (shown
       record {
         node = node;
         there = head.1;
-        named = cc;
+        named = named;
         walk = w;
         on = turn_on s o p turn node w runs asks.first asks.walk;
         own = own;
@@ -246,6 +324,7 @@ module _ (s : State) (kept : Kept s) (minor : Minor) (path driver : Text) (shown
         asked = next_driver node w;
         of_stack = n.of_stack;
         says = cc;
+        replies = replies_so s (asking s p node w).state node w minor path shown own named refl (cc);
         state = state_after w.minor (may_fail w.minor && false) node.state;
         row = subst (λ (m : Minor). Row node.state m false (state_after w.minor (may_fail w.minor && false) node.state)) own
             (subst (λ (b : Bool). Row node.state w.minor b (state_after w.minor (may_fail w.minor && false) node.state)) (and_false (may_fail w.minor)) (rows false));
@@ -258,8 +337,9 @@ module _ (s : State) (kept : Kept s) (minor : Minor) (path driver : Text) (shown
   unheld_start x e h = let z = subst (λ (y : DevState). is_held y ≡ true) e h in cc
 
   by_start : (node : Node) (phase : Phase) (w : Walk) (state : DevState) → node_at node.serial s.core.nodes ≡ Some node → Acting s node.serial phase → phase_walk phase ≡ Some w → w.minor ≡ minor → w.waits ≡ false → has_ended w (length node.stack) ≡ false
-      → node.state ≡ NotStarted → Row NotStarted minor false state → node.path ≡ path → driver ≡ name_of s.core.rack (next_driver node w) → AsksNext s path minor driver
-  by_start node phase w state at acts walk own waits more down row named says =
+      → node.state ≡ NotStarted → Row NotStarted minor false state → node.path ≡ path → driver ≡ name_of s.core.rack (next_driver node w)
+      → (t : State) → t.core.rack ≡ rack_after (AskWhat.Irp w.minor) node.path s.core.rack (next_driver node w) → shown ≡ shown_of w.minor (rack_reply (AskWhat.Irp w.minor) node.path s.core.rack (next_driver node w)) → AsksNext s minor path driver shown t
+  by_start node phase w state at acts walk own waits more down row named says t rack answers =
       let here = acting_at s node.serial phase kept.good.order acts in
       let n = next_of node w more in
       record {
@@ -276,27 +356,28 @@ module _ (s : State) (kept : Kept s) (minor : Minor) (path driver : Text) (shown
         asked = next_driver node w;
         of_stack = n.of_stack;
         says = says;
+        replies = replies_so s t node w minor path shown own named rack answers;
         state = state;
         row = subst (λ (x : DevState). Row x minor false state) (sym down) row;
         closed = λ leaves. unopen s.handles s.core.nodes node.serial kept.waits.held (λ m there held.
             unheld_start m.state (ap (λ (x : Node). x.state) (some_same (node_at node.serial s.core.nodes) m node there at) ∙ down) held);
       }
 
-  by_activity : HasOwn s → (node : Node) (phase : Phase) (m : StartMove) → node_at node.serial s.core.nodes ≡ Some node → Acting s node.serial phase → ActivityStep s.core node phase m → m.label ≡ Label.Asked minor path driver shown → AsksNext s path minor driver
+  by_activity : HasOwn s → (node : Node) (phase : Phase) (m : StartMove) → node_at node.serial s.core.nodes ≡ Some node → Acting s node.serial phase → ActivityStep s.core node phase m → m.label ≡ Label.Asked minor path driver shown → AsksNext s minor path driver shown (ma.start_lifted s node.serial m).state
   by_activity owns node _ _ at acts (ActivityStep.asks_start w waits more) says =
       let here = acting_at s node.serial (Phase.Starting w) kept.good.order acts in
       let own : PhaseOwn (Phase.Starting w) = subst PhaseOwn here.is (phase_found PhaseOwn (is_activity node.serial) s.activities here.activity here.at owns) in
       let start : w.minor ≡ Start = cc in
       let is : w.minor ≡ minor = cc in
       let fits = (acting_fits s node.serial node (Phase.Starting w) at acts kept.good).1 in
-      by_start node (Phase.Starting w) w Started at acts refl is waits more fits (subst (λ (m : Minor). Row NotStarted m false Started) (sym start ∙ is) Row.start) (cc) (cc)
+      by_start node (Phase.Starting w) w Started at acts refl is waits more fits (subst (λ (m : Minor). Row NotStarted m false Started) (sym start ∙ is) Row.start) (cc) (cc) _ refl (cc)
   by_activity owns node _ _ at acts (ActivityStep.asks_remove w waits more) says =
       let here = acting_at s node.serial (Phase.Removing w) kept.good.order acts in
       let own : PhaseOwn (Phase.Removing w) = subst PhaseOwn here.is (phase_found PhaseOwn (is_activity node.serial) s.activities here.activity here.at owns) in
       let removes : w.minor ≡ Remove = cc in
       let is : w.minor ≡ minor = cc in
       let fits = (acting_fits s node.serial node (Phase.Removing w) at acts kept.good).1 in
-      by_start node (Phase.Removing w) w NoStack at acts refl is waits more fits (subst (λ (m : Minor). Row NotStarted m false NoStack) (sym removes ∙ is) Row.remove) (cc) (cc)
+      by_start node (Phase.Removing w) w NoStack at acts refl is waits more fits (subst (λ (m : Minor). Row NotStarted m false NoStack) (sym removes ∙ is) Row.remove) (cc) (cc) _ refl (cc)
   by_activity owns node _ _ at acts (ActivityStep.adds d ds) says = absurd (cc)
   by_activity owns node _ _ at acts (ActivityStep.refused d ds) says = absurd (cc)
   by_activity owns node _ _ at acts (ActivityStep.fits phase plan budget search answer) says = absurd (cc)
@@ -308,7 +389,7 @@ module _ (s : State) (kept : Kept s) (minor : Minor) (path driver : Text) (shown
   by_activity owns node _ _ at acts (ActivityStep.empty problem none) says = absurd (cc)
   by_activity owns node _ _ at acts (ActivityStep.undoes problem d ds full) says = absurd (cc)
 
-  by_machine : HasOwn s → (step : Step) → MachineStep s step → step.label ≡ Label.Asked minor path driver shown → AsksNext s path minor driver
+  by_machine : HasOwn s → (step : Step) → MachineStep s step → step.label ≡ Label.Asked minor path driver shown → AsksNext s minor path driver shown step.state
   by_machine owns step (MachineStep.operates o _ runs taken) says = by_job o taken.now step runs taken.turn taken.is says
   by_machine owns _ (MachineStep.starts node phase m at acts is) says = by_activity owns node phase m at acts is says
   by_machine owns _ (MachineStep.does step none is) says = absurd (tasks_ask_not minor path driver shown s step is says)

@@ -435,9 +435,12 @@ module _ (s : State) where
         (λ so.
         let waits = waiting minor (phase_walk a.phase) (not_not (ev.waits_for minor (phase_walk a.phase)) so) in
         let w = waits.0 in
-        accept s event _ _ ((λ h. h (n, at, AwaitsAnswer.starts a w there waits.1 waits.2 waits.3)), tt)
-        (n, at, GotAnswer.starts a w there waits.1 waits.2 waits.3
-        (ap (λ (x : Phase). record s { activities = changed_first (is_activity n.serial) (with_phase x) s.activities }) (answered_phase ok w a.phase waits.1)))))
+        accept s event _ _ ((λ h. h (n, at, AwaitsAnswer.starts a w there waits.1 waits.2 waits.3)), tt) (
+          n,
+          at,
+          GotAnswer.starts a w there waits.1 waits.2 waits.3
+              (ap (λ (x : Phase). record s { activities = changed_first (is_activity n.serial) (with_phase x) s.activities }) (answered_phase ok w a.phase waits.1)),
+        )))
 
     completes_at : Told s (Event.Complete path minor ok) (ev.completes_at s n minor ok)
     completes_at =
@@ -447,17 +450,20 @@ module _ (s : State) where
         (λ not_so. completes_start (λ o w also first walk waits is.
         let same : o ≡ j = some_same s.operation o j also runs in
         let so = both_true (ev.is_number n.serial (slice_get j.todo 0)) (ev.waits_for minor j.walk)
-            (ap (ev.is_number n.serial) (subst (λ (x : Job). slice_get x.todo 0 ≡ Some n.serial) same first) ∙ same_number n.serial)
-            (awaited minor j.walk w (subst (λ (x : Job). x.walk ≡ Some w) same walk) waits is) in
+        (ap (ev.is_number n.serial) (subst (λ (x : Job). slice_get x.todo 0 ≡ Some n.serial) same first) ∙ same_number n.serial)
+        (awaited minor j.walk w (subst (λ (x : Job). x.walk ≡ Some w) same walk) waits is) in
         let no = not_true (ev.operation_waits minor n.serial j) not_so in cc))
         (λ so.
         let two = and_both (ev.is_number n.serial (slice_get j.todo 0)) (ev.waits_for minor j.walk) (not_not (ev.operation_waits minor n.serial j) so) in
         let waits = waiting minor j.walk two.1 in
         let w = waits.0 in
         let first = number_is n.serial (slice_get j.todo 0) two.0 in
-        accept s event _ _ ((λ h. h (n, at, AwaitsAnswer.operates j w runs first waits.1 waits.2 waits.3)), tt)
-        (n, at, GotAnswer.operates j w runs first waits.1 waits.2 waits.3
-        (ap (λ (x : Option Walk). record s { operation = Some (record j { walk = x }) }) (ap (option_map (λ v. after v (ev.answer_of ok))) waits.1 ∙ answered_walk ok w)))))
+        accept s event _ _ ((λ h. h (n, at, AwaitsAnswer.operates j w runs first waits.1 waits.2 waits.3)), tt) (
+          n,
+          at,
+          GotAnswer.operates j w runs first waits.1 waits.2 waits.3
+              (ap (λ (x : Option Walk). record s { operation = Some (record j { walk = x }) }) (ap (option_map (λ v. after v (ev.answer_of ok))) waits.1 ∙ answered_walk ok w)),
+        )))
 
   completes : (path : Text) (minor : Minor) (ok : Bool) → Told s (Event.Complete path minor ok) (ev.completes s path minor ok)
   completes path minor ok =

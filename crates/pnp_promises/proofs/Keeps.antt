@@ -78,7 +78,7 @@ target_down None s o k n runs is own at (m, there, state) =
     inl (ap (λ (x : Node). x.state) (some_same (node_at k s.core.nodes) n m at (subst (λ (i : ℕ). node_at i s.core.nodes ≡ Some m) own there)) ∙ state)
 target_down (Some wanted) s o k n runs is own at h = inr (o, runs, (λ none. cc), own)
 
-reqs_stay : (wanted : Option Reqs) (target : ℕ) (n : Node) → n.serial ≢ target → reqs_after wanted target n ≡ n.reqs
+pub reqs_stay : (wanted : Option Reqs) (target : ℕ) (n : Node) → n.serial ≢ target → reqs_after wanted target n ≡ n.reqs
 reqs_stay None target n other = refl
 reqs_stay (Some wanted) target n other = grind (arith, nat_tests)
 

@@ -3,3 +3,12 @@ mod Fitting
 pub mod Events
 pub mod Keeps
 pub mod Asks
+mod Choices
+pub mod LinesIdle
+pub mod LinesOperations
+pub mod Lines
+pub mod Endings
+pub mod Words
+pub mod Hears
+pub mod World
+pub mod Later

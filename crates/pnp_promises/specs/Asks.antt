@@ -1,12 +1,15 @@
 -- How a request goes: which driver is asked, when it has ended, and who is asked at all.
-use Rattle.std.specs.Prelude.{ℕ, ◌+◌, ◌≡◌, ◌≢◌, ◌<◌, ◌≤◌, ◌⊎◌, Bool, true, false, List, [], ◌∷◌, Option, Some, None, length, slice_get}
+use Rattle.std.specs.Prelude.{ℕ, ◌+◌, ◌-◌, ◌≡◌, ◌≢◌, ◌≤◌, ◌⊎◌, true, false, List, ◌∷◌, ◌++◌, Option, Some, None, Contains, length, slice_get}
 use Rattle.pnp_labels.specs.Texts.{Text}
 use Rattle.pnp_labels.specs.declared.label.Label.{Label}
 use Rattle.pnp_labels.specs.declared.label.Shown.{Shown}
 use Rattle.pnp_labels.specs.declared.states.DevState.{DevState}
+use Rattle.pnp_labels.specs.declared.event.Rule.{Rule}
+use Rattle.pnp_labels.specs.declared.words.Answer.{Answer}
+use Rattle.pnp_labels.specs.declared.words.AskWhat.{AskWhat}
 use Rattle.pnp_labels.specs.declared.words.Minor.{Minor}
 use Rattle.pnp_labels.specs.declared.words.Minor.TheVariants.{Start, QueryRemove, Remove, CancelRemove, Stop, QueryStop, CancelStop, SurpriseRemoval}
-use Rattle.pnp_model.specs.Books.{name_of}
+use Rattle.pnp_model.specs.Books.{book_of, fits, name_of}
 use Rattle.pnp_model.specs.Cores.{node_at}
 use Rattle.pnp_model.specs.Diagram.{Row}
 use Rattle.pnp_model.specs.Handles.{is_open}
@@ -43,11 +46,49 @@ pub data Goes_on (s : State) (k : ℕ) (w : Walk) : Type 0 where
   began : IsWalkOf s k w → Goes_on s k w
   begins : w ≡ walk_of w.minor → Goes_on s k w
 
+-- By which rule a driver answers ----------------------------------------------------------------------
+
+abbrev pub fewer : Option ℕ → Option ℕ
+fewer None = None
+fewer (Some n) = Some (n - 1)
+
+-- the rule has been used once more
+abbrev pub once_more : Rule → Rule
+once_more rule = record rule { uses = fewer rule.uses }
+
+-- by the first rule of the book that fits and has uses left, which has one use less then; where none does, with ok
+pub data ByBook (what : AskWhat) (path : Text) : List Rule → Answer → List Rule → Type 0 where
+  no_rule : (book : List Rule) → ((r : Rule) → Contains book r → fits what path r ≡ false) → ByBook what path book Answer.Ok book
+  by_rule : (before : List Rule) (rule : Rule) (after : List Rule) → ((r : Rule) → Contains before r → fits what path r ≡ false) → fits what path rule ≡ true
+      → ByBook what path (before ++ rule ∷ after) rule.answer (before ++ once_more rule ∷ after)
+
+abbrev pub book_at : State → ℕ → List Rule
+book_at s d = book_of (slice_get s.core.rack d)
+
+-- a failure that must not be shows as such
+abbrev pub failing : Minor → Shown
+failing Start = Shown.Fail
+failing QueryRemove = Shown.Fail
+failing QueryStop = Shown.Fail
+failing _ = Shown.Violation
+
+abbrev pub shows : Minor → Answer → Shown
+shows minor Answer.Ok = Shown.Ok
+shows minor Answer.Fail = failing minor
+shows minor Answer.Pend = Shown.Pend
+
+-- the driver answers by its book, and no other driver learns or forgets anything
+pub record Replies (s : State) (minor : Minor) (path : Text) (shown : Shown) (asked : ℕ) (t : State) : Type 0 where
+  pub answer : Answer
+  pub is_shown : shown ≡ shows minor answer
+  pub by_book : ByBook (AskWhat.Irp minor) path (book_at s asked) answer (book_at t asked)
+  pub others : (d : ℕ) → d ≢ asked → slice_get t.core.rack d ≡ slice_get s.core.rack d
+
 -- Which driver is asked ------------------------------------------------------------------------------
 
 -- one driver of the device is asked: none waits, none that may fail has failed, and it is the next by the request's order; then
 -- it has answered, or is waited for
-pub record AsksNext (s : State) (path : Text) (minor : Minor) (driver : Text) : Type 0 where
+pub record AsksNext (s : State) (minor : Minor) (path driver : Text) (shown : Shown) (t : State) : Type 0 where
   pub node : Node
   pub there : node_at node.serial s.core.nodes ≡ Some node
   pub named : node.path ≡ path
@@ -61,6 +102,7 @@ pub record AsksNext (s : State) (path : Text) (minor : Minor) (driver : Text) : 
   pub asked : ℕ
   pub of_stack : slice_get node.stack place ≡ Some asked
   pub says : driver ≡ name_of s.core.rack asked
+  pub replies : Replies s minor path shown asked t
   -- the device has the state for the request
   pub state : DevState
   pub row : Row node.state minor false state
@@ -70,7 +112,7 @@ pub record AsksNext (s : State) (path : Text) (minor : Minor) (driver : Text) : 
 abbrev pub AskLaw : Type 0
 AskLaw =
     (settings : Settings) (rack : List Driver) (entries : List Entry) (s : State) (entry : Entry) (t : State) (minor : Minor) (path driver : Text) (shown : Shown)
-    → Reaches settings rack entries s → Goes settings s entry t → printed entry ≡ Label.Asked minor path driver shown → AsksNext s path minor driver
+    → Reaches settings rack entries s → Goes settings s entry t → printed entry ≡ Label.Asked minor path driver shown → AsksNext s minor path driver shown t
 
 -- When it has ended ------------------------------------------------------------------------------------
 
