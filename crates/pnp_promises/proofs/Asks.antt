@@ -17,7 +17,7 @@ use Rattle.pnp_labels.specs.declared.words.Answer.{Answer}
 use Rattle.pnp_labels.specs.declared.words.AskWhat.{AskWhat}
 use Rattle.pnp_labels.specs.declared.words.Minor.{Minor}
 use Rattle.pnp_labels.specs.declared.words.Minor.TheVariants.{Start, QueryRemove, Remove, CancelRemove, Stop, QueryStop, CancelStop, SurpriseRemoval}
-use Rattle.pnp_model.specs.Books.{answer_in, book_of, fits, later, name_of, rack_after, rack_reply, reply, used, with_later}
+use Rattle.pnp_model.specs.Books.{answer_in, book_of, fits, later, name_of, one_less, rack_after, rack_reply, reply, used, with_later}
 use Rattle.pnp_model.specs.Keyed.{changed_first}
 use Rattle.pnp_model.specs.Cores.{node_at}
 use Rattle.pnp_model.specs.Diagram.{Row}
@@ -56,7 +56,7 @@ use Rattle.pnp_laws.proofs.Truths.{or_cases, or_neither, and_both}
 use Rattle.pnp_laws.proofs.Turns.{running_good}
 use Rattle.pnp_laws.proofs.TurnsKept.{running_shut}
 use Rattle.pnp_model.specs.Machine as ma
-use Rattle.pnp_promises.specs.Asks.{AllAnswered, AskLaw, AsksNext, ByBook, EndLaw, GoesUp, Goes_on, IsTurnOf, MayFail, Replies, book_at, shows}
+use Rattle.pnp_promises.specs.Asks.{AllAnswered, AskLaw, AsksNext, ByBook, EndLaw, GoesUp, Goes_on, IsTurnOf, MayFail, Replies, book_at, fewer, once_more, shows}
 
 -- The words ------------------------------------------------------------------------------------------
 
@@ -114,7 +114,14 @@ next_of node w more =
 
 -- By which rule a driver answers ------------------------------------------------------------------------
 
-longer : (what : AskWhat) (path : Text) (rule : Rule) (book : List Rule) (answer : Answer) (then : List Rule) → fits what path rule ≡ false → ByBook what path book answer then → ByBook what path (rule ∷ book) answer (rule ∷ then)
+fewer_is : (uses : Option ℕ) → one_less uses ≡ fewer uses
+fewer_is None = refl
+fewer_is (Some n) = refl
+
+used_is : (rule : Rule) → used rule ≡ once_more rule
+used_is rule = ap (λ (u : Option ℕ). record rule { uses = u }) (fewer_is rule.uses)
+
+longer : (what : AskWhat) (path : Text) (rule : Rule) (book : List Rule) (answer : Answer) (now : List Rule) → fits what path rule ≡ false → ByBook what path book answer now → ByBook what path (rule ∷ book) answer (rule ∷ now)
 longer what path rule _ _ _ e (ByBook.no_rule book none) = ByBook.no_rule (rule ∷ book) (λ r c. elim (contains_cons rule book r c) [ inl is ↦ ap (fits what path) is ∙ e | inr later ↦ none r later ])
 longer what path rule _ _ _ e (ByBook.by_rule before own after none fit) =
     ByBook.by_rule (rule ∷ before) own after (λ r c. elim (contains_cons rule before r c) [ inl is ↦ ap (fits what path) is ∙ e | inr later ↦ none r later ]) fit
@@ -125,7 +132,7 @@ by_book what path (rule ∷ book) = by_b (fits what path rule) refl (by_book wha
   where
     by_b : (b : Bool) → fits what path rule ≡ b → ByBook what path book (reply what path book) (later what path book)
         → ByBook what path (rule ∷ book) (answer_in (cond b (Some rule) (find (fits what path) book))) (cond b (used rule ∷ book) (rule ∷ changed_first (fits what path) used book))
-    by_b true e more = ByBook.by_rule [] rule book (λ r c. absurd (contains_nil r c)) e
+    by_b true e more = subst (λ (r : Rule). ByBook what path (rule ∷ book) rule.answer (r ∷ book)) (sym (used_is rule)) (ByBook.by_rule [] rule book (λ r c. absurd (contains_nil r c)) e)
     by_b false e more = longer what path rule book (reply what path book) (later what path book) e more
 
 set_same : (rack : List Driver) (k : ℕ) (old new : Driver) → slice_get rack k ≡ Some old → slice_get (slice_set rack k new) k ≡ Some new

@@ -178,11 +178,10 @@ held_to (m ∷ ms) n res c h =
       | inr q ↦ Contains-append_right (map (λ (r : Res). record { res = r; owner = m.serial; words = m.path }) m.holds) (node_rows ms) (record { res = res; owner = n.serial; words = n.path }) (held_to ms n res q h)
     ]
 
-reserved_row : Res → Held
+abbrev reserved_row : Res → Held
 reserved_row res = record { res = res; owner = 0; words = codes "reserved" }
 
 row_from : (c : Core) (h : Held) → Contains (map_rows c) h → IsRow c h
-unfolding reserved_row
 row_from c h there =
     elim (Contains-append_cases (reserved_rows c.reserved) (node_rows c.nodes) h (order_from row_before (reserved_rows c.reserved ++ node_rows c.nodes) h there)) [
       | inl kept ↦ let from = map_from reserved_row c.reserved h kept in subst (λ (x : Held). IsRow c x) (sym from.2) (IsRow.reserved from.0 from.1)
@@ -190,7 +189,6 @@ row_from c h there =
     ]
 
 row_to : (c : Core) (h : Held) → IsRow c h → Contains (map_rows c) h
-unfolding reserved_row
 row_to c _ (IsRow.reserved res there) =
     order_to row_before (reserved_rows c.reserved ++ node_rows c.nodes) (reserved_row res) (Contains-append_left (reserved_rows c.reserved) (node_rows c.nodes) (reserved_row res) (map_to reserved_row c.reserved res there))
 row_to c _ (IsRow.held n res there own) =
@@ -261,9 +259,6 @@ module _ (s : State) where
       order_to serial_before (operation_rows s.operation ++ activity_rows s.activities) _ (Contains-append_right (operation_rows s.operation) (activity_rows s.activities) _ (activity_to s.activities a w there walk waits))
 
   -- What is written
-
-  tree_part : List Text
-  tree_part = map tree_line (print_order s.core.nodes)
 
   map_written : (h : Held) → Contains (map_rows s.core) h → Contains (ending s) (map_line h)
   map_written h there =

@@ -75,12 +75,14 @@ module _ (s : State) (o : Job) (node : Node) (first : first_node s.core.nodes o.
       let place = remove_where (course_of o.kind) o.stage is in
       let one : after_end s.core o (is_back s o Course.Removing) node true Course.Removing ≡ Some p = subst (λ (x : Course). after_end s.core o (is_back s o x) node true x ≡ Some p) place.course_is after in
       let two : rm.after_end s.core o node true Stage.Asking ≡ Some p = subst (λ (x : Stage). rm.after_end s.core o node true x ≡ Some p) place.stage_is one in
+      let three : Some (rm.answers s.core o node true) ≡ Some p = two in
       let same : rm.answers s.core o node true ≡ p = cc in
       (ap (λ (x : Job). slice_get x.todo 0) (sym same) ∙ front_is s.core.nodes o.todo node first, ap (λ (x : Job). x.walk) (sym same))
   taken_back _ _ p TakesBack.stop is after =
       let place = stop_where (course_of o.kind) o.stage is in
       let one : after_end s.core o (is_back s o Course.Rebalancing) node true Course.Rebalancing ≡ Some p = subst (λ (x : Course). after_end s.core o (is_back s o x) node true x ≡ Some p) place.course_is after in
       let two : re.after_end s.core o node true Stage.Asking ≡ Some p = subst (λ (x : Stage). re.after_end s.core o node true x ≡ Some p) place.stage_is one in
+      let three : Some (re.answers o node true) ≡ Some p = two in
       let same : re.answers o node true ≡ p = cc in
       (ap (λ (x : Job). slice_get x.todo 0) (sym same) ∙ front_is s.core.nodes o.todo node first, ap (λ (x : Job). x.walk) (sym same))
 

@@ -24,7 +24,7 @@ front_of : (settings : Settings) (old : State) (one two : List Entry) (s t : Sta
     → (rest : List Entry) × (two ≡ one ++ rest)
 front_of settings old [] two s t more run other none free quiet e = (two, refl)
 front_of settings old (Did label ∷ xs) [] s t more (mid, goes, run) other none free quiet e = absurd (quiet_still settings old label mid (subst (IsQuiet settings) other quiet) goes)
-front_of settings old (Happens event label ∷ xs) [] s t more run other none free quiet e = absurd (cc)
+front_of settings old (Happens event label ∷ xs) [] s t more run other none free quiet e = absurd (let e2 : [] ≡ event ∷ (happened xs ++ more) = e in cc)
 front_of settings old (Declines label ∷ xs) two s t more run other none free quiet e = absurd none
 front_of settings old (Did label ∷ xs) (Did label2 ∷ ys) s t more (mid, goes, run) (mid2, goes2, run2) none free quiet e =
     let same = one_state settings old label label2 mid mid2 goes goes2 in
@@ -32,6 +32,7 @@ front_of settings old (Did label ∷ xs) (Did label2 ∷ ys) s t more (mid, goes
     let rest = front_of settings mid xs ys s t more run (subst (λ (x : State). Run settings x ys t) (sym same) run2) none free quiet e in
     (rest.0, ap₂ (λ (l : Label) (zs : List Entry). Did l ∷ zs) (sym word) rest.1)
 front_of settings old (Happens event label ∷ xs) (Happens event2 label2 ∷ ys) s t more (mid, goes, run) (mid2, goes2, run2) none free quiet e =
+    let e2 : event2 ∷ happened ys ≡ event ∷ (happened xs ++ more) = e in
     let own : event ≡ event2 = cc in
     let both = same_event old event event2 label label2 mid mid2 own goes.1 goes2.1 in
     let left : happened ys ≡ happened xs ++ more = cc in

@@ -1,5 +1,5 @@
 -- What the lines of operations mean.
-use Rattle.std.proofs.Common.{ℕ, ◌≡◌, ◌≢◌, ◌⊎◌, ◌==◌, ◌&&◌, ◌||◌, inl, inr, Bool, true, false, cond, List, [], ◌∷◌, ◌++◌, length, Option, Some, None, refl, sym, ap, subst, ◌∙◌, arith, map}
+use Rattle.std.proofs.Common.{ℕ, ◌≡◌, ◌≢◌, ◌⊎◌, ◌==◌, ◌&&◌, ◌||◌, inl, inr, Bool, true, false, cond, List, [], ◌∷◌, ◌++◌, length, Option, Some, None, refl, sym, ap, subst, ◌∙◌, arith, map, reverse}
 use Rattle.std.specs.Prelude.{◌↔◌}
 use Rattle.std.proofs.lemmas.Bool.Decides.{nat_tests}
 use Rattle.std.specs.Prelude.{if◌then◌else◌}
@@ -115,6 +115,17 @@ stop_aim r ks = each_aim Minor.QueryStop Stage.Asking r _ ks (by_refusal (re.has
     by_refusal true = each_aim Minor.CancelStop Stage.Cancelling r _ r.agreed (record { kind = refl; target = refl; set = refl })
     by_refusal false = record { kind = refl; target = refl; set = refl }
 
+-- an operation before it has taken its first device
+abbrev removal_first : Core → OpKind → Node → Job
+removal_first c kind n =
+    record (job_of kind n) { set = leaving c n.serial; ejecting = map (λ (r : Relation). r.member) (those (rm.is_ejecting (leaving c n.serial)) c.relations) }
+
+abbrev surprise_first : Core → Node → Job
+surprise_first c n = record (job_of OpKind.Surprise n) { set = leaving c n.serial; told = those (λ k. was_told (node_at k c.nodes)) (leaving c n.serial) }
+
+abbrev moving_first : OpKind → Node → Option Reqs → Job
+moving_first kind n wanted = record (job_of kind n) { wanted = wanted }
+
 -- Begins -----------------------------------------------------------------------------------------------
 
 module _ (settings : Settings) (s : State) (none : s.operation ≡ None) (alone : s.activities ≡ []) (rank : ℕ → ℕ) (order : Ascending 0 s.core.nodes) (ranked : Ranked rank s.core) (n : Node) (at : node_at n.serial s.core.nodes ≡ Some n) where
@@ -129,32 +140,28 @@ module _ (settings : Settings) (s : State) (none : s.operation ≡ None) (alone 
   takes_all : (o : Job) (set : List ℕ) → o.set ≡ set → set ≡ leaving s.core n.serial → (j : ℕ) → (has o.set j ≡ true) ↔ ((j ≡ n.serial) ⊎ (has (dependents s.core n.serial) j ≡ true))
   takes_all o set e f = leaving_is rank s.core n.serial n order ranked at o.set (e ∙ f)
 
-  removal_first : OpKind → Job
-  removal_first kind =
-      record (job_of kind n) { set = leaving s.core n.serial; ejecting = map (λ (r : Relation). r.member) (those (rm.is_ejecting (leaving s.core n.serial)) s.core.relations) }
+  removal_aim : (kind : OpKind) → SameAim (removal_first s.core kind n) (rm.begun_removal s.core kind n)
+  removal_aim kind = ask_aim s.core.nodes (removal_first s.core kind n) (those (λ k. rm.is_queried_node (node_at k s.core.nodes)) (leaving s.core n.serial))
 
-  removal_aim : (kind : OpKind) → SameAim (removal_first kind) (rm.begun_removal s.core kind n)
-  unfolding removal_first
-  removal_aim kind = ask_aim s.core.nodes _ (those (λ k. rm.is_queried_node (node_at k s.core.nodes)) (leaving s.core n.serial))
+  surprise_aim : SameAim (surprise_first s.core n) (su.begun_surprise s.core n)
+  surprise_aim = tell_aim (surprise_first s.core n) (those (λ k. su.is_told_node (node_at k s.core.nodes)) (leaving s.core n.serial))
 
-  surprise_first : Job
-  surprise_first = record (job_of OpKind.Surprise n) { set = leaving s.core n.serial; told = those (λ k. was_told (node_at k s.core.nodes)) (leaving s.core n.serial) }
+  moving_aim : (kind : OpKind) (wanted : Option Reqs) → SameAim (moving_first kind n wanted) (re.begun_with s.core kind n wanted)
+  moving_aim kind wanted = stop_aim (moving_first kind n wanted) (reverse (serials_of (those re.is_asked s.core.nodes)))
 
-  surprise_aim : SameAim surprise_first (su.begun_surprise s.core n)
-  unfolding surprise_first
-  surprise_aim = tell_aim _ (those (λ k. su.is_told_node (node_at k s.core.nodes)) (leaving s.core n.serial))
+  removal_takes : (kind : OpKind) (j : ℕ) → (has (rm.begun_removal s.core kind n).set j ≡ true) ↔ ((j ≡ n.serial) ⊎ (has (dependents s.core n.serial) j ≡ true))
+  removal_takes kind = takes_all (rm.begun_removal s.core kind n) (leaving s.core n.serial) (removal_aim kind).set refl
 
-  begun_means : (kind : OpKind) → Meant settings s (tk.begin s kind n (begun s kind n))
-  unfolding removal_first surprise_first
-  begun_means OpKind.Rebalance = begun_so OpKind.Rebalance _ (record (job_of OpKind.Rebalance n) { wanted = None }) (stop_aim _ _) refl refl tt
-  begun_means OpKind.Change = begun_so OpKind.Change _ (record (job_of OpKind.Change n) { wanted = Some (required s n (device_born n.born s.world)) }) (stop_aim _ _) refl refl tt
-  begun_means OpKind.Finish = begun_so OpKind.Finish _ (job_of OpKind.Finish n) (record { kind = refl; target = refl; set = refl }) refl refl tt
-  begun_means OpKind.Disable =
-      begun_so OpKind.Disable _ (removal_first OpKind.Disable) (removal_aim OpKind.Disable) refl refl (takes_all (rm.begun_removal s.core OpKind.Disable n) (leaving s.core n.serial) (removal_aim OpKind.Disable).set refl)
-  begun_means OpKind.Eject =
-      begun_so OpKind.Eject _ (removal_first OpKind.Eject) (removal_aim OpKind.Eject) refl refl (takes_all (rm.begun_removal s.core OpKind.Eject n) (leaving s.core n.serial) (removal_aim OpKind.Eject).set refl)
+  pub begun_means : (kind : OpKind) → Meant settings s (tk.begin s kind n (begun s kind n))
+  begun_means OpKind.Rebalance = begun_so OpKind.Rebalance (re.begun_rebalance s.core n) (moving_first OpKind.Rebalance n None) (moving_aim OpKind.Rebalance None) refl refl tt
+  begun_means OpKind.Change =
+      let wanted = required s n (device_born n.born s.world) in
+      begun_so OpKind.Change (re.begun_change s.core n wanted) (moving_first OpKind.Change n (Some wanted)) (moving_aim OpKind.Change (Some wanted)) refl refl tt
+  begun_means OpKind.Finish = begun_so OpKind.Finish (fi.begun_finish n) (job_of OpKind.Finish n) (record { kind = refl; target = refl; set = refl }) refl refl tt
+  begun_means OpKind.Disable = begun_so OpKind.Disable (rm.begun_removal s.core OpKind.Disable n) (removal_first s.core OpKind.Disable n) (removal_aim OpKind.Disable) refl refl (removal_takes OpKind.Disable)
+  begun_means OpKind.Eject = begun_so OpKind.Eject (rm.begun_removal s.core OpKind.Eject n) (removal_first s.core OpKind.Eject n) (removal_aim OpKind.Eject) refl refl (removal_takes OpKind.Eject)
   begun_means OpKind.Surprise =
-      begun_so OpKind.Surprise _ surprise_first surprise_aim refl refl (takes_all (su.begun_surprise s.core n) (leaving s.core n.serial) surprise_aim.set refl)
+      begun_so OpKind.Surprise (su.begun_surprise s.core n) (surprise_first s.core n) surprise_aim refl refl (takes_all (su.begun_surprise s.core n) (leaving s.core n.serial) surprise_aim.set refl)
 
 -- Steps ------------------------------------------------------------------------------------------------
 

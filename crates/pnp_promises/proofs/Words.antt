@@ -28,10 +28,10 @@ use Rattle.pnp_promises.proofs.LinesIdle.{found_in, none_passes}
 -- Paths ------------------------------------------------------------------------------------------------
 
 same_is : (a b : Text) → same a b ≡ true → SamePath a b
-same_is a b h = search (arith, bytes_eq-Decides (folded a) (folded b))
+same_is a b h = (bytes_eq-Decides (folded a) (folded b)).0 h
 
 is_same : (a b : Text) → SamePath a b → same a b ≡ true
-is_same a b e = search (arith, bytes_eq-Decides (folded a) (folded b))
+is_same a b e = (bytes_eq-Decides (folded a) (folded b)).1 e
 
 no_same : (a b : Text) → same a b ≡ false → SamePath a b → ⊥
 no_same a b h e = let z = is_same a b e in cc

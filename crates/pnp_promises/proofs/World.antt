@@ -119,15 +119,17 @@ always_stands settings rack s reached =
 -- who is seen stands before
 stand_first : (front : List Device) (seen : List ℕ) (world : List Device) → ((k : ℕ) → has seen k ≡ true → (p : Device) × Contains front p × (p.born ≡ k)) → Stand seen world
     → (before : List Device) (d : Device) (after : List Device) → world ≡ before ++ d ∷ after → (d.born ≡ 0) ⊎ ((p : Device) × Contains (front ++ before) p × (p.born ≡ d.parent))
-stand_first front seen [] known stands [] d after e = absurd (cc)
-stand_first front seen [] known stands (b ∷ bs) d after e = absurd (cc)
+stand_first front seen [] known stands [] d after e = absurd (let e2 : [] ≡ d ∷ after = e in cc)
+stand_first front seen [] known stands (b ∷ bs) d after e = absurd (let e2 : [] ≡ b ∷ (bs ++ d ∷ after) = e in cc)
 stand_first front seen (x ∷ xs) known stands [] d after e =
+    let e2 : x ∷ xs ≡ d ∷ after = e in
     let is : x ≡ d = cc in
     elim stands.0 [
       | inl root ↦ inl (ap (λ (y : Device). y.born) (sym is) ∙ root)
       | inr over ↦ let p = known x.parent over in inr (p.0, subst (λ (l : List Device). Contains l p.0) (sym (append-nil front)) p.1, p.2 ∙ ap (λ (y : Device). y.parent) is)
     ]
 stand_first front seen (x ∷ xs) known stands (b ∷ bs) d after e =
+    let e2 : x ∷ xs ≡ b ∷ (bs ++ d ∷ after) = e in
     let is : x ≡ b = cc in
     let rest : xs ≡ bs ++ d ∷ after = cc in
     elim (stand_first (front ++ x ∷ []) (x.born ∷ seen) xs (more_known x) stands.1 bs d after rest) [
