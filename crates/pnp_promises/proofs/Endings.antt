@@ -159,23 +159,25 @@ map_to f (y ∷ ys) x h =
       | inr q ↦ contains_later (f y) (map f ys) (f x) (map_to f ys x q)
     ]
 
-held_from : (ns : List Node) (h : Held) → Contains (node_rows ns) h → (n : Node) × (res : Res) × Contains ns n × Contains n.holds res × (h ≡ record { res = res; owner = n.serial; words = n.path })
+abbrev held_row : Node → Res → Held
+held_row n res = record { res = res; owner = n.serial; words = n.path }
+
+held_from : (ns : List Node) (h : Held) → Contains (node_rows ns) h → (n : Node) × (res : Res) × Contains ns n × Contains n.holds res × (h ≡ held_row n res)
 held_from [] h c = absurd (contains_nil h c)
 held_from (n ∷ ns) h c =
-    elim (Contains-append_cases (map (λ (res : Res). record { res = res; owner = n.serial; words = n.path }) n.holds) (node_rows ns) h c) [
-      | inl own ↦ let from = map_from (λ (res : Res). record { res = res; owner = n.serial; words = n.path }) n.holds h own in (n, from.0, contains_here n ns, from.1, from.2)
+    elim (Contains-append_cases (map (held_row n) n.holds) (node_rows ns) h c) [
+      | inl own ↦ let from = map_from (held_row n) n.holds h own in (n, from.0, contains_here n ns, from.1, from.2)
       | inr later ↦ let more = held_from ns h later in (more.0, more.1, contains_later n ns more.0 more.2, more.3, more.4)
     ]
 
-held_to : (ns : List Node) (n : Node) (res : Res) → Contains ns n → Contains n.holds res → Contains (node_rows ns) (record { res = res; owner = n.serial; words = n.path })
+held_to : (ns : List Node) (n : Node) (res : Res) → Contains ns n → Contains n.holds res → Contains (node_rows ns) (held_row n res)
 held_to [] n res c h = absurd (contains_nil n c)
 held_to (m ∷ ms) n res c h =
     elim (contains_cons m ms n c) [
       | inl e ↦
-          Contains-append_left (map (λ (r : Res). record { res = r; owner = m.serial; words = m.path }) m.holds) (node_rows ms) (record { res = res; owner = n.serial; words = n.path })
-          (subst (λ (x : Node). Contains (map (λ (r : Res). record { res = r; owner = m.serial; words = m.path }) m.holds) (record { res = res; owner = x.serial; words = x.path })) (sym e)
-          (map_to (λ (r : Res). record { res = r; owner = m.serial; words = m.path }) m.holds res (subst (λ (x : Node). Contains x.holds res) e h)))
-      | inr q ↦ Contains-append_right (map (λ (r : Res). record { res = r; owner = m.serial; words = m.path }) m.holds) (node_rows ms) (record { res = res; owner = n.serial; words = n.path }) (held_to ms n res q h)
+          Contains-append_left (map (held_row m) m.holds) (node_rows ms) (held_row n res)
+          (subst (λ (x : Node). Contains (map (held_row m) m.holds) (held_row x res)) (sym e) (map_to (held_row m) m.holds res (subst (λ (x : Node). Contains x.holds res) e h)))
+      | inr q ↦ Contains-append_right (map (held_row m) m.holds) (node_rows ms) (held_row n res) (held_to ms n res q h)
     ]
 
 abbrev reserved_row : Res → Held
@@ -192,9 +194,12 @@ row_to : (c : Core) (h : Held) → IsRow c h → Contains (map_rows c) h
 row_to c _ (IsRow.reserved res there) =
     order_to row_before (reserved_rows c.reserved ++ node_rows c.nodes) (reserved_row res) (Contains-append_left (reserved_rows c.reserved) (node_rows c.nodes) (reserved_row res) (map_to reserved_row c.reserved res there))
 row_to c _ (IsRow.held n res there own) =
-    order_to row_before (reserved_rows c.reserved ++ node_rows c.nodes) _ (Contains-append_right (reserved_rows c.reserved) (node_rows c.nodes) _ (held_to c.nodes n res there own))
+    order_to row_before (reserved_rows c.reserved ++ node_rows c.nodes) (held_row n res) (Contains-append_right (reserved_rows c.reserved) (node_rows c.nodes) (held_row n res) (held_to c.nodes n res there own))
 
 -- the requests
+
+abbrev request_row : ℕ → Walk → Outstanding
+request_row k w = record { serial = k; walk = w }
 
 walk_from : (k : ℕ) (o : Option Walk) (row : Outstanding) → Contains (walk_row k o) row → (w : Walk) × (o ≡ Some w) × (w.waits ≡ true) × (row ≡ record { serial = k; walk = w })
 walk_from k None row h = absurd (contains_nil row h)
@@ -254,9 +259,9 @@ module _ (s : State) where
 
   request_to : (row : Outstanding) → IsOutstanding s row → Contains (outstanding s) row
   request_to _ (IsOutstanding.operates o k w runs first walk waits) =
-      order_to serial_before (operation_rows s.operation ++ activity_rows s.activities) _ (Contains-append_left (operation_rows s.operation) (activity_rows s.activities) _ (operation_to s.operation o k w runs first walk waits))
+      order_to serial_before (operation_rows s.operation ++ activity_rows s.activities) (request_row k w) (Contains-append_left (operation_rows s.operation) (activity_rows s.activities) (request_row k w) (operation_to s.operation o k w runs first walk waits))
   request_to _ (IsOutstanding.starts a w there walk waits) =
-      order_to serial_before (operation_rows s.operation ++ activity_rows s.activities) _ (Contains-append_right (operation_rows s.operation) (activity_rows s.activities) _ (activity_to s.activities a w there walk waits))
+      order_to serial_before (operation_rows s.operation ++ activity_rows s.activities) (request_row a.serial w) (Contains-append_right (operation_rows s.operation) (activity_rows s.activities) (request_row a.serial w) (activity_to s.activities a w there walk waits))
 
   -- What is written
 
@@ -269,7 +274,7 @@ module _ (s : State) where
 
   part_has : (hs : List Handle) (h : Handle) → Contains hs h → Contains (handles_part s.core hs) (handle_line s.core h)
   part_has [] h there = absurd (contains_nil h there)
-  part_has (x ∷ xs) h there = contains_later (codes "handles") _ (handle_line s.core h) (map_to (handle_line s.core) (x ∷ xs) h there)
+  part_has (x ∷ xs) h there = contains_later (codes "handles") (map (handle_line s.core) (x ∷ xs)) (handle_line s.core h) (map_to (handle_line s.core) (x ∷ xs) h there)
 
   handles_written : (h : Handle) → Contains s.handles h → Contains (ending s) (handle_line s.core h)
   handles_written h there =

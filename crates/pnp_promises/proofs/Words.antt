@@ -48,8 +48,8 @@ paths_name_devices settings rack entries s run =
 -- Dependents ---------------------------------------------------------------------------------------------
 
 any_in : {A : Type 0} (p : A → Bool) (xs : List A) → list_any p xs ≡ true → (x : A) × Contains xs x × (p x ≡ true)
-any_in p [] h = absurd (cc)
-any_in p (x ∷ xs) h = by_b (p x) refl h (any_in p xs)
+any_in {A = A} p [] h = absurd (cc)
+any_in {A = A} p (x ∷ xs) h = by_b (p x) refl h (any_in p xs)
   where
     by_b : (b : Bool) → p x ≡ b → (b || list_any p xs) ≡ true → (list_any p xs ≡ true → (y : A) × Contains xs y × (p y ≡ true)) → (y : A) × Contains (x ∷ xs) y × (p y ≡ true)
     by_b true e g more = (x, contains_here x xs, e)
@@ -70,12 +70,12 @@ module _ (c : Core) (order : Ascending 0 c.nodes) where
       let own = own_serial j m c.nodes at in
       subst (λ (i : ℕ). DependsOn c k i) own
       (elim (edge_cases c k m h) [
-        | inl (below, up) ↦ DependsOn.child m (found_self j c.nodes m at) below up
+        | inl (below, up) ↦ DependsOn.child k m (found_self j c.nodes m at) below up
         | inr related ↦
             let some = any_in (λ (r : Relation). r.member == m.serial && has (k ∷ []) r.owner) c.relations related in
             let two = and_both (some.0.member == m.serial) (has (k ∷ []) some.0.owner) some.2 in
             let t0 = two.0 in
-            DependsOn.member some.0 m some.1 (sym (one_has k some.0.owner two.1)) (found_self j c.nodes m at) (grind (arith, nat_tests))
+            DependsOn.member k some.0 m some.1 (sym (one_has k some.0.owner two.1)) (found_self j c.nodes m at) (grind (arith, nat_tests))
       ])
 
   -- and the other way round
@@ -91,14 +91,14 @@ module _ (c : Core) (order : Ascending 0 c.nodes) where
   direct_has k m at h = closed_keeps c (direct c k) m.serial m order at (those_serial 0 (hangs_on c (k ∷ [])) c.nodes m.serial m order at h)
 
   stays_in : (set : List ℕ) → Closed c set → (i j : ℕ) → has set i ≡ true → DependsOn c i j → has set j ≡ true
-  stays_in set done i _ h (DependsOn.child m at e up) = done m.serial m at (hangs_more c i set m h (child_hangs i m e up))
-  stays_in set done i _ h (DependsOn.member r m there e at f) = done m.serial m at (hangs_more c i set m h (member_hangs i m r there e f))
-  stays_in set done i _ h (DependsOn.through x j a b) = stays_in set done x j (stays_in set done i x h a) b
+  stays_in set done _ _ h (DependsOn.child i m at e up) = done m.serial m at (hangs_more c i set m h (child_hangs i m e up))
+  stays_in set done _ _ h (DependsOn.member i r m there e at f) = done m.serial m at (hangs_more c i set m h (member_hangs i m r there e f))
+  stays_in set done _ _ h (DependsOn.through i x j a b) = stays_in set done x j (stays_in set done i x h a) b
 
   depends_has : (k j : ℕ) → DependsOn c k j → has (dependents c k) j ≡ true
-  depends_has k _ (DependsOn.child m at e up) = direct_has k m at (child_hangs k m e up)
-  depends_has k _ (DependsOn.member r m there e at f) = direct_has k m at (member_hangs k m r there e f)
-  depends_has k _ (DependsOn.through i j a b) = stays_in (dependents c k) (dependents_closed c k order) i j (depends_has k i a) b
+  depends_has _ _ (DependsOn.child k m at e up) = direct_has k m at (child_hangs k m e up)
+  depends_has _ _ (DependsOn.member k r m there e at f) = direct_has k m at (member_hangs k m r there e f)
+  depends_has _ _ (DependsOn.through k i j a b) = stays_in (dependents c k) (dependents_closed c k order) i j (depends_has k i a) b
 
   abbrev AllDepend : ℕ → List ℕ → Type 0
   AllDepend k set = (j : ℕ) → has set j ≡ true → DependsOn c k j
@@ -108,7 +108,7 @@ module _ (c : Core) (order : Ascending 0 c.nodes) where
       let from = grown_from c set j order h in
       elim from.2 [
         | inl old ↦ all j old
-        | inr on ↦ let some = hangs_some c set from.0 on in DependsOn.through some.0 j (all some.0 some.1) (edge_depends some.0 j from.0 from.1 some.2)
+        | inr on ↦ let some = hangs_some c set from.0 on in DependsOn.through k some.0 j (all some.0 some.1) (edge_depends some.0 j from.0 from.1 some.2)
       ]
 
   has_depends : (k j : ℕ) → has (dependents c k) j ≡ true → DependsOn c k j

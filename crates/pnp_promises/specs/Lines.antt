@@ -157,15 +157,15 @@ pub data IsTrouble (settings : Settings) (s : State) (path : Text) (problem : Pr
 
 -- nothing is wanted and held; or one alternative is held whole, and of those before it none fits beside what is fixed
 abbrev pub IsFirstChoice : List Res → Reqs → List Res → Type 0
-IsFirstChoice fixed reqs held =
-    ((reqs ≡ []) × (held ≡ []))
-    ⊎ ((i : ℕ) × (list : AltList) × (slice_get reqs i ≡ Some list) × Whole (list ∷ []) held
+IsFirstChoice fixed reqs parts =
+    ((reqs ≡ []) × (parts ≡ []))
+    ⊎ ((i : ℕ) × (list : AltList) × (slice_get reqs i ≡ Some list) × Whole (list ∷ []) parts
     × ((j : ℕ) (earlier : AltList) → j < i → slice_get reqs j ≡ Some earlier → Fits fixed ((earlier ∷ []) ∷ []) → ⊥))
 
 -- the device holds what is printed, which is its first alternative that fits beside all that others hold
 abbrev pub IsAssigned : State → State → List Res → Node → Type 0
-IsAssigned s t held n =
-    IsFirstChoice (fixed_beside s.core (n.serial ∷ [])) n.reqs held × (t.core.nodes ≡ changed_first (is_node n.serial) (with_holds held) s.core.nodes)
+IsAssigned s t parts n =
+    IsFirstChoice (fixed_beside s.core (n.serial ∷ [])) n.reqs parts × (t.core.nodes ≡ changed_first (is_node n.serial) (with_holds parts) s.core.nodes)
 
 -- `nofit`: nothing fits ------------------------------------------------------------------------------
 
@@ -231,7 +231,7 @@ Means settings s (Label.Gone path) t = Of s path (IsGone s t)
 Means settings s (Label.Listed path) t = Of s path (IsListed s)
 Means settings s (Label.Install path rank driver) t = Of s path (λ n. Installed settings s n rank driver t)
 Means settings s (Label.Trouble path problem) t = IsTrouble settings s path problem t
-Means settings s (Label.Assign path held) t = Of s path (IsAssigned s t held)
+Means settings s (Label.Assign path parts) t = Of s path (IsAssigned s t parts)
 Means settings s (Label.NoFit path) t = FoundNothing s path t
 Means settings s (Label.Begin kind path) t = Of s path (λ n. Begins s kind n t)
 Means settings s (Label.Commit movers) t = Committed s t

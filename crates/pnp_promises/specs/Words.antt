@@ -30,10 +30,10 @@ PathLaw = (settings : Settings) (rack : List Driver) (entries : List Entry) (s :
 
 -- a child of a device depends on it, and so does a member that is related to it, for removal or for ejection; and who depends on
 -- one that depends on it
-pub data DependsOn (c : Core) (k : ℕ) : ℕ → Type 0 where
-  child : (m : Node) → node_at m.serial c.nodes ≡ Some m → m.parent ≡ k → m.serial ≢ 0 → DependsOn c k m.serial
-  member : (r : Relation) (m : Node) → Contains c.relations r → r.owner ≡ k → node_at m.serial c.nodes ≡ Some m → r.member ≡ m.serial → DependsOn c k m.serial
-  through : (i j : ℕ) → DependsOn c k i → DependsOn c i j → DependsOn c k j
+pub data DependsOn (c : Core) : ℕ → ℕ → Type 0 where
+  child : (k : ℕ) (m : Node) → node_at m.serial c.nodes ≡ Some m → m.parent ≡ k → m.serial ≢ 0 → DependsOn c k m.serial
+  member : (k : ℕ) (r : Relation) (m : Node) → Contains c.relations r → r.owner ≡ k → node_at m.serial c.nodes ≡ Some m → r.member ≡ m.serial → DependsOn c k m.serial
+  through : (k i j : ℕ) → DependsOn c k i → DependsOn c i j → DependsOn c k j
 
 -- the dependents of a device are those, and nobody else
 abbrev pub DependentsAre : Core → Type 0
