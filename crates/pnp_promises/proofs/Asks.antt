@@ -1,11 +1,10 @@
 -- Which driver is asked, in which state of the device, and when a request has ended.
-use Rattle.std.proofs.Common.{ℕ, zero, suc, ◌+◌, ◌-◌, ◌<◌, ◌≤◌, ◌≡◌, ◌≢◌, ◌⊎◌, ◌&&◌, ◌||◌, inl, inr, Bool, true, false, List, [], ◌∷◌, ◌++◌, cond, length, nat_le, Option, Some, None, refl, sym, ap, subst, ◌∙◌, arith}
+use Rattle.std.proofs.Common.{ℕ, zero, suc, ◌<◌, ◌≡◌, ◌≢◌, ◌⊎◌, ◌&&◌, inl, inr, Bool, true, false, List, [], ◌∷◌, cond, length, nat_le, Option, Some, None, refl, sym, ap, subst, ◌∙◌, arith}
 use Rattle.std.proofs.lemmas.Bool.Decides.{nat_tests}
 use Rattle.std.proofs.lemmas.Option.{slice_get-get_or}
-use Rattle.std.specs.Prelude.{Contains, slice_index, slice_set}
+use Rattle.std.specs.Prelude.{slice_set}
 use Rattle.std.specs.List.{find, slice_get}
 use Rattle.resource_reqs.proofs.Counts.{contains_cons, contains_nil}
-use Rattle.std.specs.Option.{option_map}
 use Rattle.resource_reqs.specs.Spelling.Answer.{assignment, no_fit, spent}
 use Rattle.pnp_labels.specs.Texts.{Text}
 use Rattle.pnp_labels.specs.declared.label.Label.{Label}
@@ -25,15 +24,14 @@ use Rattle.pnp_model.specs.Frames.{first_node, next_driver}
 use Rattle.pnp_model.specs.Handles.{is_open}
 use Rattle.pnp_model.specs.Jobs.{JobMove}
 use Rattle.pnp_model.specs.Machine.{phase_walk}
-use Rattle.pnp_model.specs.Records.{Activity, Course, Driver, Found, Job, Node, Phase, Stage, State, Step, Walk, course_of}
-use Rattle.pnp_model.specs.Runs.{Entry, printed}
+use Rattle.pnp_model.specs.Records.{Course, Driver, Found, Job, Node, Phase, Stage, State, Step, Walk, course_of}
 use Rattle.pnp_model.specs.Runs.Entry.{Happens, Did, Declines}
 use Rattle.pnp_model.specs.Rebalances as re
-use Rattle.pnp_model.specs.States.{activity_at, is_activity}
+use Rattle.pnp_model.specs.States.{is_activity}
 use Rattle.pnp_model.specs.Starts.{StartMove}
 use Rattle.pnp_model.specs.Walks.{has_ended, is_bad, may_fail, place_of, shown_of, state_after, walk_of}
 use Rattle.pnp_laws.specs.Effects.{Acting, PhaseOwn, Running, Turn}
-use Rattle.pnp_laws.specs.Kept.{IsGood, asked_in}
+use Rattle.pnp_laws.specs.Kept.{asked_in}
 use Rattle.pnp_laws.specs.Told.{IsWalkOf}
 use Rattle.pnp_laws.specs.Waiting.{is_held}
 use Rattle.pnp_laws.specs.Words.{IsWord}
@@ -50,13 +48,13 @@ use Rattle.pnp_laws.proofs.Phases.{phase_found}
 use Rattle.pnp_laws.proofs.RunsStand.{Kept, reaches_kept}
 use Rattle.pnp_laws.proofs.RunsTold.{states_are_told}
 use Rattle.pnp_laws.proofs.ShutSteps.{unopen}
-use Rattle.pnp_laws.proofs.Stages.{ActStep, FinishAct, JobStep, RebalanceAct, RemovalAct, SurpriseAct, TakenStep, asking}
-use Rattle.pnp_laws.proofs.Standing.{FinishShut, JobShut, RemovalShut, StageShut, SurpriseShut, shut_by}
+use Rattle.pnp_laws.proofs.Stages.{ActStep, FinishAct, JobStep, RebalanceAct, RemovalAct, SurpriseAct, asking}
+use Rattle.pnp_laws.proofs.Standing.{FinishShut, JobShut, RemovalShut, SurpriseShut}
 use Rattle.pnp_laws.proofs.Truths.{or_cases, or_neither, and_both}
 use Rattle.pnp_laws.proofs.Turns.{running_good}
 use Rattle.pnp_laws.proofs.TurnsKept.{running_shut}
 use Rattle.pnp_model.specs.Machine as ma
-use Rattle.pnp_promises.specs.Asks.{AllAnswered, AskLaw, AsksNext, ByBook, EndLaw, GoesUp, Goes_on, IsTurnOf, MayFail, Replies, book_at, fewer, once_more, shows}
+use Rattle.pnp_promises.specs.Asks.{AllAnswered, AskLaw, AsksNext, ByBook, EndLaw, Goes_on, IsTurnOf, MayFail, Replies, book_at, fewer, once_more, shows}
 
 -- The words ------------------------------------------------------------------------------------------
 

@@ -1,7 +1,7 @@
 -- The resources that are found are those of the first alternative that fits.
-use Rattle.std.proofs.Common.{ℕ, ◌<◌, ◌≡◌, ◌⊎◌, inl, inr, List, [], ◌∷◌, ◌++◌, Option, Some, None, option_and_then, refl, sym, ap, subst, ◌∙◌, arith, slice_get}
-use Rattle.resource_reqs.specs.Resources.{AltList, Fits, IsAssignment, Reqs, Res, Whole}
-use Rattle.resource_reqs.specs.Spelling.{AtOrBefore, Before, Complete, CompleteAt, Coord, IsFound, IsPlan, Point, Spells, after, alt, listed, next, place, root}
+use Rattle.std.proofs.Common.{ℕ, ◌<◌, ◌≡◌, inl, inr, List, [], ◌∷◌, ◌++◌, Option, Some, option_and_then, refl, sym, ap, subst, ◌∙◌, arith, slice_get}
+use Rattle.resource_reqs.specs.Resources.{AltList, Fits, Reqs, Res, Whole}
+use Rattle.resource_reqs.specs.Spelling.{AtOrBefore, Complete, Coord, IsPlan, Spells, after, alt, listed, next, root}
 use Rattle.resource_reqs.proofs.Counts.{contains_cons, contains_nil}
 use Rattle.resource_reqs.proofs.Fitting.{assignment_of, complete_from_fits, plan_of}
 use Rattle.resource_reqs.proofs.Points.{contains_read}

@@ -1,20 +1,19 @@
 -- The end of the output tells what is.
-use Rattle.std.proofs.Common.{ℕ, ◌+◌, ◌<◌, ◌≤◌, ◌≡◌, ◌≢◌, ◌⊎◌, ◌==◌, ◌&&◌, ◌||◌, inl, inr, Bool, true, false, cond, List, [], ◌∷◌, ◌++◌, length, nat_lt, Option, Some, None, Contains, refl, sym, ap, subst, ◌∙◌, arith, map}
+use Rattle.std.proofs.Common.{ℕ, ◌<◌, ◌≡◌, ◌⊎◌, ◌==◌, ◌&&◌, ◌||◌, inl, inr, Bool, true, false, cond, List, [], ◌∷◌, ◌++◌, length, nat_lt, Option, Some, None, Contains, refl, sym, ap, subst, ◌∙◌, arith, map}
 use Rattle.std.proofs.lemmas.Bool.Decides.{nat_tests}
 use Rattle.std.proofs.lemmas.List.Elements.{Contains-append_cases, Contains-append_left, Contains-append_right}
-use Rattle.std.specs.Prelude.{◌↔◌, codes}
+use Rattle.std.specs.Prelude.{codes}
 use Rattle.std.specs.List.{slice_get}
 use Rattle.resource_reqs.specs.Resources.{Res}
 use Rattle.resource_reqs.specs.declared.kind.Kind.{Kind}
 use Rattle.resource_reqs.specs.declared.kind.Kind.TheVariants.{Port, Irq, Mem, Dma, Bus}
 use Rattle.resource_reqs.proofs.Counts.{contains_cons, contains_nil}
-use Rattle.pnp_labels.specs.Texts.{Text}
 use Rattle.pnp_model.specs.Endings.{Held, Outstanding, activity_rows, at_row, comes_before, ending, handle_line, handles_part, map_line, map_rows, node_rows, operation_rows, outstanding, outstanding_line, print_order, reserved_rows, row_before, row_numbers, serial_before, tree_line, unit_number, waiting_row, walk_row}
 use Rattle.pnp_model.specs.Keyed.{in_order, put_before}
 use Rattle.pnp_model.specs.Machine.{phase_walk}
 use Rattle.pnp_model.specs.Records.{Activity, Core, Handle, Job, Node, State, Walk}
 use Rattle.pnp_laws.proofs.Decides.{contains_here, contains_later}
-use Rattle.pnp_promises.specs.Endings.{AtOrBefore, EndTells, EndTellsLaw, IsOutstanding, IsRow, Rises, place_of_kind, place_of_request, place_of_row}
+use Rattle.pnp_promises.specs.Endings.{AtOrBefore, EndTellsLaw, IsOutstanding, IsRow, Rises, place_of_kind, place_of_request, place_of_row}
 
 -- Lists in order ---------------------------------------------------------------------------------------
 

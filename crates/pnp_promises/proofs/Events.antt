@@ -8,24 +8,22 @@ use Rattle.device_ids.specs.Folding.{same}
 use Rattle.resource_reqs.specs.Resources.{Res, Reqs, clashes}
 use Rattle.pnp_labels.specs.Texts.{Text}
 use Rattle.pnp_labels.specs.declared.states.DevState.{DevState}
-use Rattle.pnp_labels.specs.declared.states.DevState.TheVariants.{Started, SurpriseRemoved}
+use Rattle.pnp_labels.specs.declared.states.DevState.TheVariants.{Started}
 use Rattle.pnp_labels.specs.declared.words.Minor.{Minor}
 use Rattle.pnp_labels.specs.declared.words.DriverKind.{DriverKind}
 use Rattle.pnp_labels.specs.declared.words.RelKind.{RelKind}
 use Rattle.pnp_labels.specs.declared.event.Event.{Event}
 use Rattle.pnp_labels.specs.declared.event.Rule.{Rule}
 use Rattle.pnp_labels.specs.declared.label.EventWord.{EventWord}
-use Rattle.pnp_labels.specs.declared.label.OpKind.{OpKind}
 use Rattle.pnp_labels.specs.declared.label.Reason.{Reason}
 use Rattle.pnp_labels.specs.declared.label.Label.{Label}
 use Rattle.pnp_labels.specs.declared.deed.Deed.{Deed}
 use Rattle.pnp_model.specs.Books.{is_named, is_unnamed}
 use Rattle.pnp_model.specs.Frames.{held_by}
-use Rattle.pnp_model.specs.Handles.{closed_with, is_handle_of, opened}
+use Rattle.pnp_model.specs.Handles.{closed_with, is_handle_of}
 use Rattle.pnp_model.specs.Keyed.{changed_first, without_first}
 use Rattle.pnp_model.specs.Machine.{phase_walk}
-use Rattle.pnp_model.specs.Records.{Activity, Core, Device, Driver, Duty, Handle, Job, Node, Phase, State, Step, Task, Walk}
-use Rattle.pnp_model.specs.Runs.{Entry}
+use Rattle.pnp_model.specs.Records.{Activity, Device, Driver, Duty, Handle, Job, Node, Phase, State, Step, Walk}
 use Rattle.pnp_model.specs.States.{activity_at, device_of, enable_path, has_below, is_activity, is_in_world, list_node, node_born, node_of, plug, unplug, with_phase, without_those}
 use Rattle.pnp_model.specs.Tests.{has, has_same, is_scripted, is_started, is_surprise_removed, minor_number, same_minor}
 use Rattle.pnp_model.specs.Trees.{dependents, is_child}
@@ -34,11 +32,11 @@ use Rattle.pnp_model.specs.Windows.{is_window_on}
 use Rattle.pnp_model.proofs.Guards.{by_found, by_test, none_if, not_not}
 use Rattle.pnp_model.specs.Events as ev
 use Rattle.pnp_laws.specs.Waiting.{HandlesInOrder}
-use Rattle.pnp_laws.proofs.Lookups.{find_passes, some_same}
+use Rattle.pnp_laws.proofs.Lookups.{some_same}
 use Rattle.pnp_laws.proofs.OpSteps.{is_Started, is_SurpriseRemoved}
 use Rattle.pnp_laws.proofs.OpenHandles.{open_handles_fit}
-use Rattle.pnp_laws.proofs.Truths.{and_both, both_true, or_cases, or_left, or_neither, or_right, not_true}
-use Rattle.pnp_promises.specs.Accepted.{AcceptedLaw, ClosedHandle, Done, GotAnswer, IsDone, OneMoreOpen, and_for, answered, open_at, task, with_walk}
+use Rattle.pnp_laws.proofs.Truths.{and_both, both_true, or_cases, or_neither, not_true}
+use Rattle.pnp_promises.specs.Accepted.{AcceptedLaw, ClosedHandle, Done, GotAnswer, IsDone, OneMoreOpen, and_for, answered, with_walk}
 use Rattle.pnp_promises.specs.Refusals.{AwaitsAnswer, Cause, CauseLaw, ChangesNothing, HasBelow, IsExact, IsFirst, NoneHolds, RefusedLaw, TheDevice, TheDriver, TheNode, causes}
 use Rattle.pnp_promises.proofs.Counting.{closed_one_less, count_is, is_zero, not_zero, opened_one_more}
 

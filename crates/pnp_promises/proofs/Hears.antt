@@ -1,27 +1,25 @@
 -- A device that refuses is told at once that it stays, and devices are asked whether they may stop from the greatest serial down.
-use Rattle.std.proofs.Common.{ℕ, ◌<◌, ◌≡◌, ◌≢◌, ◌||◌, Bool, true, false, List, [], ◌∷◌, length, nat_le, Option, Some, None, refl, sym, ap, subst, ◌∙◌, arith}
+use Rattle.std.proofs.Common.{ℕ, ◌<◌, ◌≡◌, Bool, true, List, [], ◌∷◌, length, nat_le, Option, Some, refl, sym, ap, subst, ◌∙◌}
 use Rattle.std.specs.List.{slice_get}
-use Rattle.pnp_labels.specs.declared.label.Label.{Label}
 use Rattle.pnp_labels.specs.declared.words.Minor.{Minor}
 use Rattle.pnp_model.specs.Frames.{first_node, rest}
-use Rattle.pnp_model.specs.Machine.{IsStep, after_end, is_back, job_lifted, next}
-use Rattle.pnp_model.specs.Jobs as jobs
-use Rattle.pnp_model.specs.Records.{Course, Job, Node, Settings, Stage, State, Step, Walk, course_of}
+use Rattle.pnp_model.specs.Machine.{after_end, is_back}
+use Rattle.pnp_model.specs.Records.{Course, Job, Node, Stage, State, Step, Walk, course_of}
 use Rattle.pnp_model.specs.Tests.{has}
 use Rattle.pnp_model.specs.Walks.{has_ended, is_bad, walk_of}
 use Rattle.pnp_model.specs.Rebalances as re
 use Rattle.pnp_model.specs.Removals as rm
-use Rattle.pnp_laws.specs.Effects.{Running, Turn}
+use Rattle.pnp_laws.specs.Effects.{Turn}
 use Rattle.pnp_laws.specs.Kept.{OperationFits, asked_in}
 use Rattle.pnp_laws.specs.Rebalanced.{Falling}
 use Rattle.pnp_laws.proofs.IdleSteps.{MachineStep, machine_step}
 use Rattle.pnp_laws.proofs.Lists.{cons_here}
 use Rattle.pnp_laws.proofs.Lookups.{some_same}
 use Rattle.pnp_laws.proofs.RunsStand.{Kept, reaches_kept}
-use Rattle.pnp_laws.proofs.Stages.{JobStep, TakenStep}
+use Rattle.pnp_laws.proofs.Stages.{JobStep}
 use Rattle.pnp_laws.proofs.Standing.{OrderKept, Ordered, StageKept, kept_by}
 use Rattle.pnp_laws.proofs.Truths.{or_left}
-use Rattle.pnp_promises.specs.Hears.{FromTheGreatest, HearsLaw, IsAsked, StopOrderLaw, TakesBack}
+use Rattle.pnp_promises.specs.Hears.{HearsLaw, IsAsked, StopOrderLaw, TakesBack}
 use Rattle.pnp_promises.proofs.Asks.{front_is}
 use Rattle.pnp_promises.proofs.Fitting.{asked_is}
 

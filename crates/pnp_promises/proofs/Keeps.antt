@@ -1,25 +1,24 @@
 -- Tasks are taken in turn, handles are the script's, and a running device keeps what it holds.
-use Rattle.std.proofs.Common.{ℕ, ◌≡◌, ◌≢◌, ◌⊎◌, ◌==◌, inl, inr, Bool, true, false, cond, List, [], ◌∷◌, ◌++◌, Option, Some, None, refl, sym, ap, subst, ◌∙◌, arith}
+use Rattle.std.proofs.Common.{ℕ, ◌≡◌, ◌≢◌, ◌⊎◌, inl, inr, Bool, true, false, cond, List, [], ◌∷◌, Option, Some, None, refl, sym, ap, subst, ◌∙◌, arith}
 use Rattle.std.proofs.lemmas.Bool.{cases_eq}
 use Rattle.std.proofs.lemmas.Bool.Decides.{nat_tests}
-use Rattle.resource_reqs.specs.Resources.{Reqs, Res}
+use Rattle.resource_reqs.specs.Resources.{Reqs}
 use Rattle.pnp_labels.specs.declared.states.DevState.{DevState}
 use Rattle.pnp_labels.specs.declared.states.DevState.TheVariants.{NoStack, NotStarted, Stopped}
-use Rattle.pnp_labels.specs.declared.event.Event.{Event}
 use Rattle.pnp_labels.specs.declared.label.Label.{Label}
 use Rattle.pnp_model.specs.Cores.{node_at}
 use Rattle.pnp_model.specs.Rebalances.{movers, others, plan_of, reqs_after}
-use Rattle.pnp_model.specs.Records.{Course, Job, Node, Phase, Stage, State, course_of}
+use Rattle.pnp_model.specs.Records.{Job, Node, Phase, Stage, State}
 use Rattle.pnp_model.specs.Records.Phase.{Adding, Searching}
 use Rattle.pnp_model.specs.Runs.{Entry, printed}
 use Rattle.pnp_model.specs.Runs.Entry.{Happens, Did, Declines}
 use Rattle.pnp_model.specs.Tests.{has}
-use Rattle.pnp_laws.specs.Effects.{CommandEffect, Enabled, HandleEffect, IsSearch, TaskEffect, TasksEffect}
+use Rattle.pnp_laws.specs.Effects.{CommandEffect, HandleEffect, IsSearch, TaskEffect, TasksEffect}
 use Rattle.pnp_laws.specs.Kept.{Fits, IsGood, RebalanceKeeps, TargetFits, is_calm, is_stopped, stopped_state}
 use Rattle.pnp_laws.proofs.EffectsOf.{effect_goes}
 use Rattle.pnp_laws.proofs.EffectViews.{Origin, acting_fits, origin}
 use Rattle.pnp_promises.proofs.Fitting.{rebalance_fits}
-use Rattle.pnp_laws.proofs.Lists.{has_cases, member, without_has}
+use Rattle.pnp_laws.proofs.Lists.{member, without_has}
 use Rattle.pnp_laws.proofs.Lookups.{own_serial, some_same}
 use Rattle.pnp_laws.proofs.OpSteps.{is_Stopped}
 use Rattle.pnp_laws.proofs.RunsStand.{reaches_kept}

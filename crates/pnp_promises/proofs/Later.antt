@@ -1,11 +1,11 @@
 -- Where the events of one run stand at the front of those of another, all that it did does.
-use Rattle.std.proofs.Common.{◌≡◌, List, [], ◌∷◌, ◌++◌, Option, Some, None, refl, sym, ap, ap₂, subst, ◌∙◌}
+use Rattle.std.proofs.Common.{◌≡◌, List, [], ◌∷◌, ◌++◌, Option, refl, sym, ap, ap₂, subst, ◌∙◌}
 use Rattle.pnp_labels.specs.declared.event.Event.{Event}
 use Rattle.pnp_labels.specs.declared.label.Label.{Label}
 use Rattle.pnp_model.specs.Events.{happens}
-use Rattle.pnp_model.specs.Machine.{IsQuiet, IsStep, Steps, next}
-use Rattle.pnp_model.specs.Records.{Doing, Driver, Settings, State, Step}
-use Rattle.pnp_model.specs.Runs.{Entry, Goes, Run, opening}
+use Rattle.pnp_model.specs.Machine.{IsQuiet, IsStep, Steps}
+use Rattle.pnp_model.specs.Records.{Doing, Settings, State, Step}
+use Rattle.pnp_model.specs.Runs.{Entry, Run, opening}
 use Rattle.pnp_model.specs.Runs.Entry.{Happens, Did, Declines}
 use Rattle.pnp_model.proofs.Determined.{one_label, one_state}
 use Rattle.pnp_promises.specs.Later.{LaterLaw, NoneDeclined, happened}

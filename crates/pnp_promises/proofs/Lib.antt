@@ -12,3 +12,4 @@ pub mod Words
 pub mod Hears
 pub mod World
 pub mod Later
+pub mod FinishOrder

@@ -1,6 +1,6 @@
 -- What each line says is so.
-use Rattle.std.proofs.Common.{◌≡◌, List, Option, Some, None, refl}
-use Rattle.pnp_model.specs.Records.{Driver, Job, Settings, State, Step}
+use Rattle.std.proofs.Common.{◌≡◌, Option, Some, None, refl}
+use Rattle.pnp_model.specs.Records.{Job, Settings, State, Step}
 use Rattle.pnp_model.specs.Machine.{IsStep, next}
 use Rattle.pnp_laws.proofs.RunsStand.{Kept, reaches_kept}
 use Rattle.pnp_promises.specs.Lines.{MeaningLaw}

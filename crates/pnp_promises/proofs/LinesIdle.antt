@@ -1,9 +1,8 @@
 -- What the lines of tasks and starts mean.
-use Rattle.std.proofs.Common.{ℕ, ◌+◌, ◌≤◌, ◌<◌, ◌≡◌, ◌≢◌, ◌⊎◌, ◌==◌, ◌&&◌, ◌||◌, inl, inr, Bool, true, false, not, List, [], ◌∷◌, ◌++◌, length, nat_le, Option, Some, None, Contains, refl, sym, ap, subst, ◌∙◌, arith, cond}
+use Rattle.std.proofs.Common.{ℕ, ◌+◌, ◌≡◌, ◌⊎◌, ◌==◌, ◌&&◌, inl, inr, Bool, true, false, not, List, [], ◌∷◌, length, nat_le, Option, Some, None, Contains, refl, sym, ap, subst, ◌∙◌, arith, cond}
 use Rattle.std.proofs.lemmas.Bool.Decides.{nat_tests}
 use Rattle.std.specs.List.{find, list_any, slice_get}
 use Rattle.std.specs.Option.{option_map}
-use Rattle.resource_reqs.specs.Resources.{Res}
 use Rattle.resource_reqs.specs.Spelling.{IsAnswer}
 use Rattle.resource_reqs.specs.Spelling.Answer.{assignment, no_fit, spent}
 use Rattle.resource_reqs.proofs.Answering.{no_fit_means}
@@ -21,17 +20,16 @@ use Rattle.pnp_model.specs.Books.{driver_named, rack_reply}
 use Rattle.pnp_model.specs.Cores.{node_at, set_problem}
 use Rattle.pnp_model.specs.Frames.{core_after}
 use Rattle.pnp_model.specs.Handles.{is_ready_device}
-use Rattle.pnp_model.specs.Records.{Activity, Choice, Core, Device, Duty, Found, Node, Phase, Settings, State, Step, Task, Walk, doing_map, Job}
+use Rattle.pnp_model.specs.Records.{Activity, Choice, Device, Duty, Found, Node, Phase, Settings, State, Step, Task, Walk, doing_map, Job}
 use Rattle.pnp_model.specs.Records.Phase.{Adding, Searching, Starting, Removing, Due}
 use Rattle.pnp_model.specs.Rebalances.{begun_change}
-use Rattle.pnp_model.specs.States.{activity_at, device_born, is_activity, is_in_world, with_core, with_phase}
+use Rattle.pnp_model.specs.States.{activity_at, device_born, is_in_world, with_phase}
 use Rattle.pnp_model.specs.Tests.{has_same, is_surprise_removed}
-use Rattle.pnp_model.specs.Trees.{is_child}
 use Rattle.pnp_model.specs.Walks.{has_ended, is_bad, walk_of}
-use Rattle.pnp_laws.specs.Effects.{Acting, BeginsFor, begun, required}
+use Rattle.pnp_laws.specs.Effects.{Acting, begun, required}
 use Rattle.pnp_laws.specs.Kept.{Ascending, InOrder}
 use Rattle.pnp_laws.proofs.Decides.{contains_here, contains_later}
-use Rattle.pnp_laws.proofs.EffectViews.{ActsAt, acting_at}
+use Rattle.pnp_laws.proofs.EffectViews.{acting_at}
 use Rattle.pnp_laws.proofs.IdleSteps.{gone_is, joins_is}
 use Rattle.pnp_laws.proofs.Lookups.{ended_same, find_passes, found_self, own_serial, phase_set_same}
 use Rattle.pnp_laws.proofs.Passing.{AllBy, AllNext, all_step}
@@ -40,7 +38,7 @@ use Rattle.pnp_model.specs.Machine as ma
 use Rattle.pnp_model.specs.Starts as st
 use Rattle.pnp_model.specs.Tasks as tk
 use Rattle.pnp_promises.proofs.Choices.{first_choice}
-use Rattle.pnp_promises.specs.Lines.{Because, Begins, FoundNothing, Installed, IsListed, IsTrouble, Joined, Means, NoChoice, NoneToJoin, NothingToDo, Of, Owed}
+use Rattle.pnp_promises.specs.Lines.{Because, IsTrouble, Means, NoneToJoin}
 
 abbrev pub Meant : Settings → State → Step → Type 0
 Meant settings s step = Means settings s step.label step.state

@@ -1,9 +1,8 @@
 -- What the lines of operations mean.
-use Rattle.std.proofs.Common.{ℕ, ◌≡◌, ◌≢◌, ◌⊎◌, ◌==◌, ◌&&◌, ◌||◌, inl, inr, Bool, true, false, cond, List, [], ◌∷◌, ◌++◌, length, Option, Some, None, refl, sym, ap, subst, ◌∙◌, arith, map, reverse, drop}
+use Rattle.std.proofs.Common.{ℕ, ◌≡◌, ◌≢◌, ◌⊎◌, ◌==◌, ◌&&◌, inl, inr, Bool, true, false, List, [], ◌∷◌, length, Option, Some, None, refl, sym, ap, subst, ◌∙◌, arith, map, reverse, drop}
 use Rattle.std.specs.Prelude.{◌↔◌}
 use Rattle.std.proofs.lemmas.Bool.Decides.{nat_tests}
 use Rattle.std.specs.Prelude.{if◌then◌else◌}
-use Rattle.std.specs.List.{list_any}
 use Rattle.std.specs.Option.{option_map}
 use Rattle.resource_reqs.specs.Resources.{Reqs, Res}
 use Rattle.resource_reqs.specs.Spelling.Answer.{assignment, no_fit, spent}
@@ -14,19 +13,19 @@ use Rattle.pnp_labels.specs.declared.label.OpKind.{OpKind}
 use Rattle.pnp_labels.specs.declared.states.DevState.TheVariants.{SurpriseRemoved}
 use Rattle.pnp_labels.specs.declared.states.Problem.{Problem}
 use Rattle.pnp_labels.specs.declared.words.Minor.{Minor}
-use Rattle.pnp_model.specs.Cores.{drop_node, is_node, node_at, path_of, serials_of, stack_of}
+use Rattle.pnp_model.specs.Cores.{drop_node, node_at, path_of, serials_of, stack_of}
 use Rattle.pnp_model.specs.Frames.{asked, first_node, rest}
 use Rattle.pnp_model.specs.Handles.{is_open, is_ready_device, ready_device, was_told}
 use Rattle.pnp_model.specs.Jobs as jobs
 use Rattle.pnp_model.specs.Jobs.{Beside, JobMove, begins, each_gets, job_of, stands}
-use Rattle.pnp_model.specs.Keyed.{those, without_first}
+use Rattle.pnp_model.specs.Keyed.{those}
 use Rattle.pnp_model.specs.Machine.{IsStep}
-use Rattle.pnp_model.specs.Records.{Core, Course, Device, Doing, Found, Job, Node, Relation, Settings, Stage, State, Step, Walk, course_of, doing_map}
+use Rattle.pnp_model.specs.Records.{Core, Course, Device, Found, Job, Node, Relation, Settings, Stage, State, Step, Walk, course_of, doing_map}
 use Rattle.pnp_model.specs.Records.Doing.{Does}
 use Rattle.pnp_model.specs.States.{device_born, device_of, list_node, node_born, relist, relist_device, relist_other, set_operation, unplug, with_core}
 use Rattle.pnp_model.specs.Tests.{has, is_eject, is_surprise_removed}
 use Rattle.pnp_model.specs.Trees.{dependents, direct, hangs_on, leaving, set_of, stands_up}
-use Rattle.pnp_model.specs.Walks.{has_ended, is_bad, walk_of}
+use Rattle.pnp_model.specs.Walks.{has_ended, walk_of}
 use Rattle.pnp_laws.specs.Effects.{Running, Turn, begun, required}
 use Rattle.pnp_laws.specs.Kept.{Ascending, Within}
 use Rattle.pnp_laws.proofs.Closures.{Closed, closed_keeps, closed_within, hangs_more, set_within, those_serial}
@@ -36,7 +35,7 @@ use Rattle.pnp_laws.proofs.Lookups.{left_same, map_from as node_from_map, own_se
 use Rattle.pnp_laws.proofs.OpSteps.{is_SurpriseRemoved}
 use Rattle.pnp_laws.proofs.Orders.{Ranked, picked}
 use Rattle.pnp_laws.proofs.Sharing.{part_not}
-use Rattle.pnp_laws.proofs.Stages.{ActStep, FinishAct, JobStep, RebalanceAct, RemovalAct, SurpriseAct, TakenStep, operation_step}
+use Rattle.pnp_laws.proofs.Stages.{ActStep, FinishAct, JobStep, RebalanceAct, SurpriseAct, operation_step}
 use Rattle.pnp_laws.proofs.Truths.{and_both, by_test, or_cases}
 use Rattle.pnp_model.specs.Finishes as fi
 use Rattle.pnp_model.specs.Machine as ma
@@ -44,7 +43,7 @@ use Rattle.pnp_model.specs.Rebalances as re
 use Rattle.pnp_model.specs.Removals as rm
 use Rattle.pnp_model.specs.Surprises as su
 use Rattle.pnp_model.specs.Tasks as tk
-use Rattle.pnp_promises.specs.Lines.{Because, Ended, EndsSo, FoundNothing, IsTrouble, Means, Of, Takes}
+use Rattle.pnp_promises.specs.Lines.{Because, EndsSo, IsTrouble, Means, Takes}
 use Rattle.pnp_promises.proofs.Keeps.{reqs_stay}
 use Rattle.pnp_promises.proofs.LinesIdle.{Meant}
 

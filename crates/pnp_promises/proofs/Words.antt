@@ -1,18 +1,15 @@
 -- Whose path it is, and who depends on whom.
-use Rattle.std.proofs.Common.{ℕ, ◌≡◌, ◌≢◌, ◌⊎◌, ◌==◌, ◌&&◌, ◌||◌, inl, inr, Bool, true, false, cond, not, List, [], ◌∷◌, length, Option, Some, None, Contains, refl, sym, ap, subst, ◌∙◌, arith}
+use Rattle.std.proofs.Common.{ℕ, ◌≡◌, ◌≢◌, ◌==◌, ◌&&◌, ◌||◌, inl, inr, Bool, true, false, not, List, [], ◌∷◌, length, Some, Contains, refl, sym, ap, subst, ◌∙◌, arith}
 use Rattle.std.proofs.lemmas.Bool.Decides.{nat_tests}
 use Rattle.std.proofs.lemmas.Slice.Eq.{bytes_eq-Decides}
-use Rattle.std.specs.Prelude.{◌↔◌}
 use Rattle.std.specs.List.{list_any}
 use Rattle.device_ids.specs.Folding.{folded, same}
 use Rattle.resource_reqs.proofs.Counts.{contains_cons, contains_nil}
 use Rattle.pnp_labels.specs.Texts.{Text}
-use Rattle.pnp_model.specs.Cores.{node_at, serials_of}
-use Rattle.pnp_model.specs.Keyed.{those}
-use Rattle.pnp_model.specs.Records.{Core, Device, Node, Relation, State}
-use Rattle.pnp_model.specs.States.{device_of, node_of}
+use Rattle.pnp_model.specs.Cores.{node_at}
+use Rattle.pnp_model.specs.Records.{Core, Device, Node, Relation}
 use Rattle.pnp_model.specs.Tests.{has}
-use Rattle.pnp_model.specs.Trees.{closed, dependents, direct, grown, hangs_on}
+use Rattle.pnp_model.specs.Trees.{dependents, direct, grown, hangs_on}
 use Rattle.pnp_laws.specs.Kept.{Ascending}
 use Rattle.pnp_laws.proofs.Closures.{Closed, closed_in_all, closed_keeps, dependents_closed, grown_from, hangs_more, hangs_some, those_serial}
 use Rattle.pnp_laws.proofs.Decides.{contains_here, contains_later}
@@ -22,7 +19,7 @@ use Rattle.pnp_laws.proofs.Ranks.{one_has}
 use Rattle.pnp_laws.proofs.RunsStand.{reaches_kept}
 use Rattle.pnp_laws.proofs.TreeMoves.{edge_cases}
 use Rattle.pnp_laws.proofs.Truths.{and_both, or_left, or_right}
-use Rattle.pnp_promises.specs.Words.{DependentsAre, DependsLaw, DependsOn, FindsByPath, PathLaw, SamePath}
+use Rattle.pnp_promises.specs.Words.{DependsLaw, DependsOn, PathLaw, SamePath}
 use Rattle.pnp_promises.proofs.LinesIdle.{found_in, none_passes}
 
 -- Paths ------------------------------------------------------------------------------------------------

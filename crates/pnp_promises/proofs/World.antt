@@ -1,25 +1,23 @@
 -- Each device of the world stands behind its parent.
-use Rattle.std.proofs.Common.{ℕ, ◌≡◌, ◌≢◌, ◌⊎◌, ◌==◌, ◌||◌, inl, inr, Bool, true, false, cond, List, [], ◌∷◌, ◌++◌, Option, Some, None, Contains, refl, sym, ap, subst, ◌∙◌, arith, append_assoc}
-use Rattle.std.proofs.lemmas.Bool.Decides.{nat_tests}
+use Rattle.std.proofs.Common.{ℕ, ◌≡◌, ◌⊎◌, ◌==◌, ◌||◌, inl, inr, Bool, true, false, cond, List, [], ◌∷◌, ◌++◌, Some, Contains, refl, sym, ap, subst, ◌∙◌, append_assoc}
 use Rattle.std.proofs.lemmas.List.{append-nil}
 use Rattle.std.proofs.lemmas.List.Elements.{Contains-append_left, Contains-append_right}
 use Rattle.std.specs.List.{find}
-use Rattle.pnp_labels.specs.Texts.{Text}
 use Rattle.pnp_model.specs.Keyed.{changed_first}
 use Rattle.pnp_model.specs.Records.{Device, Driver, Settings, State}
-use Rattle.pnp_model.specs.Runs.{Entry, Goes, opening, root_device}
-use Rattle.pnp_model.specs.States.{device_of, requires, without_those}
+use Rattle.pnp_model.specs.Runs.{Entry}
+use Rattle.pnp_model.specs.States.{requires, without_those}
 use Rattle.pnp_model.specs.Tests.{has}
 use Rattle.device_ids.specs.Folding.{same}
 use Rattle.resource_reqs.specs.Resources.{Reqs}
 use Rattle.pnp_laws.specs.Effects.{WorldEffect}
 use Rattle.pnp_laws.specs.Reached.{IsReached}
-use Rattle.pnp_laws.proofs.Decides.{contains_here, contains_later}
+use Rattle.pnp_laws.proofs.Decides.{contains_here}
 use Rattle.pnp_laws.proofs.EffectsOf.{effect_goes}
 use Rattle.pnp_laws.proofs.Lists.{cons_here, cons_there, has_cases}
 use Rattle.pnp_laws.proofs.Reaching.{kept}
-use Rattle.pnp_laws.proofs.Truths.{or_cases, or_neither}
-use Rattle.pnp_promises.specs.World.{ParentsFirst, WorldLaw}
+use Rattle.pnp_laws.proofs.Truths.{or_neither}
+use Rattle.pnp_promises.specs.World.{WorldLaw}
 
 -- each stands behind its parent, or behind one of these
 abbrev Stand : List ℕ → List Device → Type 0

@@ -17,7 +17,7 @@ use Rattle.pnp_model.specs.Machine.{phase_walk}
 use Rattle.pnp_model.specs.Records.{Activity, Device, Driver, Duty, Handle, Job, Node, Phase, Settings, State, Task, Walk}
 use Rattle.pnp_model.specs.Runs.{Entry, Goes}
 use Rattle.pnp_model.specs.Runs.Entry.{Happens}
-use Rattle.pnp_model.specs.States.{activity_at, device_of, is_activity, node_born, node_of, with_phase, without_those}
+use Rattle.pnp_model.specs.States.{activity_at, is_activity, node_born, node_of, with_phase, without_those}
 use Rattle.pnp_promises.specs.Refusals.{TheDevice, TheDriver, TheNode}
 
 -- The words ------------------------------------------------------------------------------------

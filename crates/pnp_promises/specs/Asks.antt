@@ -8,16 +8,14 @@ use Rattle.pnp_labels.specs.declared.event.Rule.{Rule}
 use Rattle.pnp_labels.specs.declared.words.Answer.{Answer}
 use Rattle.pnp_labels.specs.declared.words.AskWhat.{AskWhat}
 use Rattle.pnp_labels.specs.declared.words.Minor.{Minor}
-use Rattle.pnp_labels.specs.declared.words.Minor.TheVariants.{Start, QueryRemove, Remove, CancelRemove, Stop, QueryStop, CancelStop, SurpriseRemoval}
+use Rattle.pnp_labels.specs.declared.words.Minor.TheVariants.{Start, QueryRemove, Remove, CancelRemove, QueryStop, CancelStop}
 use Rattle.pnp_model.specs.Books.{book_of, fits, name_of}
 use Rattle.pnp_model.specs.Cores.{node_at}
 use Rattle.pnp_model.specs.Diagram.{Row}
 use Rattle.pnp_model.specs.Handles.{is_open}
 use Rattle.pnp_model.specs.Laws.{Reaches}
-use Rattle.pnp_model.specs.Machine.{phase_walk}
-use Rattle.pnp_model.specs.Records.{Activity, Driver, Job, Node, Settings, State, Walk}
+use Rattle.pnp_model.specs.Records.{Driver, Node, Settings, State, Walk}
 use Rattle.pnp_model.specs.Runs.{Entry, Goes, printed}
-use Rattle.pnp_model.specs.States.{activity_at}
 use Rattle.pnp_model.specs.Walks.{walk_of}
 use Rattle.pnp_laws.specs.Told.{IsWalkOf}
 

@@ -1,10 +1,10 @@
 -- What the end of the output tells: the map, the outstanding requests and the open handles, in words without the definition's recursion.
-use Rattle.std.specs.Prelude.{ℕ, ◌≡◌, ◌≢◌, ◌<◌, ◌⊎◌, ◌↔◌, true, List, [], ◌∷◌, Option, Some, None, Contains, codes, slice_get}
+use Rattle.std.specs.Prelude.{ℕ, ◌≡◌, ◌<◌, ◌⊎◌, ◌↔◌, true, List, [], ◌∷◌, Some, Contains, codes, slice_get}
 use Rattle.std.specs.Fmt.{decimal}
 use Rattle.resource_reqs.specs.Resources.{Res}
 use Rattle.resource_reqs.specs.declared.kind.Kind.{Kind}
 use Rattle.resource_reqs.specs.declared.kind.Kind.TheVariants.{Port, Irq, Mem, Dma, Bus}
-use Rattle.pnp_labels.specs.Texts.{Text, spaced}
+use Rattle.pnp_labels.specs.Texts.{spaced}
 use Rattle.pnp_model.specs.Cores.{node_at, path_of}
 use Rattle.pnp_model.specs.Endings.{Held, Outstanding, ending, map_line, map_rows, outstanding}
 use Rattle.pnp_model.specs.Laws.{Reaches}

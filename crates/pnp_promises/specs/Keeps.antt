@@ -1,15 +1,14 @@
 -- What stays: the turn of tasks, open handles, and what a running device holds.
-use Rattle.std.specs.Prelude.{ℕ, ◌≡◌, ◌≢◌, ◌⊎◌, List, [], ◌∷◌, ◌++◌, Option, Some, None, drop}
+use Rattle.std.specs.Prelude.{ℕ, ◌≡◌, ◌≢◌, ◌⊎◌, List, [], ◌∷◌, ◌++◌, Some, None, drop}
 use Rattle.pnp_labels.specs.declared.event.Event.{Event}
-use Rattle.pnp_labels.specs.declared.label.Label.{Label}
 use Rattle.pnp_labels.specs.declared.label.OpKind.{OpKind}
 use Rattle.pnp_labels.specs.declared.states.DevState.TheVariants.{NoStack, NotStarted, Stopped}
 use Rattle.pnp_model.specs.Cores.{node_at}
 use Rattle.pnp_model.specs.Frames.{first_node}
 use Rattle.pnp_model.specs.Laws.{Reaches}
 use Rattle.pnp_model.specs.Records.{Course, Driver, Duty, Job, Node, Settings, Stage, State, Task, course_of}
-use Rattle.pnp_model.specs.Runs.{Entry, Goes, printed}
-use Rattle.pnp_model.specs.Runs.Entry.{Happens, Did, Declines}
+use Rattle.pnp_model.specs.Runs.{Entry, Goes}
+use Rattle.pnp_model.specs.Runs.Entry.{Happens}
 use Rattle.pnp_promises.specs.Accepted.{task}
 
 -- Tasks are taken in turn --------------------------------------------------------------------------

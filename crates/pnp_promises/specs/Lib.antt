@@ -8,3 +8,4 @@ pub mod Words
 pub mod Hears
 pub mod World
 pub mod Later
+pub mod FinishOrder

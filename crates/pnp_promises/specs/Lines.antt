@@ -1,5 +1,5 @@
 -- What the lines of the output say is so: of each line, what it means of the state before and after it.
-use Rattle.std.specs.Prelude.{ℕ, ◌+◌, ◌≡◌, ◌≢◌, ◌<◌, ◌⊎◌, ◌↔◌, Bool, true, false, List, [], ◌∷◌, ◌++◌, Option, Some, None, Contains, drop, length, slice_get}
+use Rattle.std.specs.Prelude.{ℕ, ◌+◌, ◌≡◌, ◌≢◌, ◌<◌, ◌⊎◌, ◌↔◌, true, false, List, [], ◌∷◌, ◌++◌, Some, None, Contains, drop, length, slice_get}
 use Rattle.resource_reqs.specs.Resources.{AltList, Fits, Reqs, Res, Whole}
 use Rattle.pnp_labels.specs.Texts.{Text}
 use Rattle.pnp_labels.specs.declared.label.Label.{Label}
@@ -11,9 +11,9 @@ use Rattle.pnp_labels.specs.declared.states.Problem.{Problem}
 use Rattle.pnp_labels.specs.declared.words.Minor.{Minor}
 use Rattle.pnp_model.specs.Books.{driver_named, name_of}
 use Rattle.pnp_model.specs.Cores.{is_node, node_at, with_holds, with_problem}
-use Rattle.pnp_model.specs.Frames.{fixed_beside, first_node}
+use Rattle.pnp_model.specs.Frames.{fixed_beside}
 use Rattle.pnp_model.specs.Handles.{is_open, is_ready_device}
-use Rattle.pnp_model.specs.Keyed.{changed_first, without_first}
+use Rattle.pnp_model.specs.Keyed.{changed_first}
 use Rattle.pnp_model.specs.Laws.{Reaches}
 use Rattle.pnp_model.specs.Records.{Activity, Choice, Course, Device, Driver, Duty, Job, Node, Phase, Settings, Stage, State, course_of}
 use Rattle.pnp_model.specs.Runs.{Entry, Goes}
@@ -22,7 +22,7 @@ use Rattle.pnp_model.specs.Starts.{adding}
 use Rattle.pnp_model.specs.States.{activity_at, device_born, entered, is_in_world, let_through}
 use Rattle.pnp_model.specs.Tasks.{has_born, has_path, numbered}
 use Rattle.pnp_model.specs.Tests.{has, has_same}
-use Rattle.pnp_model.specs.Trees.{dependents, is_child}
+use Rattle.pnp_model.specs.Trees.{dependents}
 use Rattle.pnp_model.specs.Walks.{walk_of}
 use Rattle.pnp_laws.specs.Effects.{Running}
 use Rattle.pnp_promises.specs.Accepted.{task}

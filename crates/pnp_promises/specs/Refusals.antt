@@ -1,7 +1,6 @@
 -- Why an event is refused: each cause in plain words, and the order in which causes count.
-use Rattle.std.specs.Prelude.{ℕ, ◌≡◌, ◌≢◌, ◌<◌, ◌≤◌, ◌⊎◌, true, false, List, [], ◌∷◌, Option, Some, None, Contains, length, find, slice_get}
+use Rattle.std.specs.Prelude.{ℕ, ◌≡◌, ◌≢◌, ◌<◌, ◌≤◌, ◌⊎◌, true, false, List, [], ◌∷◌, Some, None, length, find, slice_get}
 use Rattle.std.specs.List.{list_any}
-use Rattle.device_ids.specs.Folding.{same}
 use Rattle.resource_reqs.specs.Resources.{Res, clashes}
 use Rattle.pnp_labels.specs.Texts.{Text}
 use Rattle.pnp_labels.specs.declared.states.DevState.TheVariants.{Started}
@@ -9,11 +8,9 @@ use Rattle.pnp_labels.specs.declared.words.DriverKind.{DriverKind}
 use Rattle.pnp_labels.specs.declared.words.Minor.{Minor}
 use Rattle.pnp_labels.specs.declared.words.RelKind.{RelKind}
 use Rattle.pnp_labels.specs.declared.event.Event.{Event}
-use Rattle.pnp_labels.specs.declared.label.EventWord.{EventWord}
 use Rattle.pnp_labels.specs.declared.label.Reason.{Reason}
 use Rattle.pnp_labels.specs.declared.label.Reason.TheVariants.{NoParent, SameId, WorldFull, NoDevice, RootStays, SameName, RackEmpty, NoDriver, NotTeachable, BookFull, AlreadyDisabled, NotDisabled, Busy, SelfRelation, SameRelation, RelationCycle, NotStarted, InUse, NoHandle, HasChildren, SameWindow, NoSuchRequest}
 use Rattle.pnp_labels.specs.declared.label.Label.{Label}
-use Rattle.pnp_labels.specs.declared.deed.Deed.{Deed}
 use Rattle.pnp_model.specs.Books.{is_named, is_unnamed}
 use Rattle.pnp_model.specs.Events.{is_relation}
 use Rattle.pnp_model.specs.Frames.{held_by}

@@ -1,5 +1,5 @@
 -- What the words of the laws mean: whose path it is, and who depends on whom.
-use Rattle.std.specs.Prelude.{ℕ, ◌≡◌, ◌≢◌, ◌↔◌, true, List, Option, Some, None, Contains}
+use Rattle.std.specs.Prelude.{ℕ, ◌≡◌, ◌≢◌, ◌↔◌, true, List, Some, None, Contains}
 use Rattle.device_ids.specs.Folding.{folded}
 use Rattle.pnp_labels.specs.Texts.{Text}
 use Rattle.pnp_model.specs.Cores.{node_at}

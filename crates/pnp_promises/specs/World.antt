@@ -1,5 +1,5 @@
 -- How the world stands: each device behind its parent.
-use Rattle.std.specs.Prelude.{ℕ, ◌≡◌, ◌⊎◌, ◌∷◌, ◌++◌, List, Contains}
+use Rattle.std.specs.Prelude.{◌≡◌, ◌⊎◌, ◌∷◌, ◌++◌, List, Contains}
 use Rattle.pnp_model.specs.Laws.{Reaches}
 use Rattle.pnp_model.specs.Records.{Device, Driver, Settings, State}
 use Rattle.pnp_model.specs.Runs.{Entry}

@@ -3,6 +3,7 @@
 ghost use Rattle.pnp_promises.specs.Accepted.{AcceptedLaw};
 ghost use Rattle.pnp_promises.specs.Asks.{AskLaw, EndLaw};
 ghost use Rattle.pnp_promises.specs.Endings.{EndTellsLaw};
+ghost use Rattle.pnp_promises.specs.FinishOrder.{FinishOrderLaw};
 ghost use Rattle.pnp_promises.specs.Hears.{HearsLaw, StopOrderLaw};
 ghost use Rattle.pnp_promises.specs.Keeps.{KeepsHoldingsLaw, ScriptHandlesLaw, TurnLaw};
 ghost use Rattle.pnp_promises.specs.Later.{LaterLaw};
@@ -102,4 +103,9 @@ pub fn world_stands()
 /// the one did and printed stands at the front of what the other did. So what a script printed does not depend on what comes after it.
 pub fn later_is_no_earlier()
     ensures { LaterLaw }
+{}
+
+/// In a finish the device that is taken is ready, and no ready device has a greater serial.
+pub fn finished_from_the_greatest()
+    ensures { FinishOrderLaw }
 {}
