@@ -1,0 +1,15 @@
+pub mod Counting
+mod Fitting
+pub mod Events
+pub mod Keeps
+pub mod Asks
+mod Choices
+pub mod LinesIdle
+pub mod LinesOperations
+pub mod Lines
+pub mod Endings
+pub mod Words
+pub mod Hears
+pub mod World
+pub mod Later
+pub mod FinishOrder

@@ -1,0 +1,11 @@
+pub mod Refusals
+pub mod Accepted
+pub mod Keeps
+pub mod Asks
+pub mod Lines
+pub mod Endings
+pub mod Words
+pub mod Hears
+pub mod World
+pub mod Later
+pub mod FinishOrder
