@@ -1,5 +1,5 @@
 -- The page for a play, and for a script.
-use Rattle.std.proofs.Common.{◌≡◌, ℕ, ◌<◌, List, [], ◌∷◌, ◌++◌, Option, Some, None, IfOk, Result, Ok, Err, refl, sym, ◌∙◌, ap, subst, append_assoc, append-nil}
+use Rattle.std.proofs.Common.{◌≡◌, ℕ, ◌<◌, List, [], ◌∷◌, ◌++◌, Option, Some, None, IfOk, Result, Ok, Err, sym, ◌∙◌, ap, subst}
 use Rattle.pnp_labels.specs.Texts.{Text}
 use Rattle.pnp_labels.specs.declared.label.Label.{Label}
 use Rattle.pnp_machine.specs.Managers.{Manager, settings}
@@ -15,14 +15,11 @@ use Rattle.script_play.proofs.Plays.{fewer_left}
 use Rattle.notify_front.proofs.FrontLeft.{front_steps_left}
 use Rattle.view_page.specs.Pages.{IsPage}
 use Rattle.view_trace.specs.Asks.{asks, asks_of}
+use Rattle.view_trace.proofs.Taken.{asks_more}
 use Rattle.view_cli.specs.Viewed.{Drawing, Drawn, IsViewing, ViewsPlay}
 use Rattle.view_cli.specs.declared.viewed.Viewed.{Viewed}
 
 -- the arrows of one label more
-asks_more : (labels : List Label) (label : Label) → asks (labels ++ label ∷ []) ≡ asks labels ++ asks_of label
-asks_more [] label = append-nil (asks_of label)
-asks_more (first ∷ labels) label = ap (λ (x : List Text). asks_of first ++ x) (asks_more labels label) ∙ sym (append_assoc (asks_of first) (asks labels) (asks_of label))
-
 grown : (labels : List Label) (label : Label) (old new : List Text) → new ≡ old ++ asks_of label → old ≡ asks labels → new ≡ asks (labels ++ label ∷ [])
 grown labels label old new more is = more ∙ ap (λ (x : List Text). x ++ asks_of label) is ∙ sym (asks_more labels label)
 

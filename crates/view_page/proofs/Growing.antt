@@ -92,3 +92,14 @@ pub closed : (items rest : List Tag) (last : Option Tag) (tag : Tag) (marks : Li
 closed items rest last tag marks old new piece h shrinks some is was =
     subst (λ t. IsOpen (reverse rest) marks t) (sym (is ∙ ap (λ p. old ++ p) was))
     (close_more (reverse rest) marks old tag (subst (λ e. IsOpen e marks old) (popped items rest last tag shrinks some) h))
+
+-- the tag that is read last is the one that is open last
+pub same_tag : (items rest : List Tag) (last : Option Tag) (read tag : Tag) (outer : List Tag) → items ≡ rest ++ option_to_list last → last ≡ Some read → reverse items ≡ tag ∷ outer → read ≡ tag
+same_tag items rest last read tag outer is some e =
+    let same : (read ∷ reverse rest) ≡ (tag ∷ outer) = sym (popped items rest last read is some) ∙ e in cc
+
+-- and so what is written is its tag
+pub closing : (items rest : List Tag) (last : Option Tag) (read tag : Tag) (outer : List Tag) (old new piece : Text) → items ≡ rest ++ option_to_list last → last ≡ Some read → new ≡ old ++ piece
+    → piece ≡ close_tag read → reverse items ≡ tag ∷ outer → new ≡ old ++ close_tag tag
+closing items rest last read tag outer old new piece is some grows was e =
+    grows ∙ ap (λ p. old ++ p) (was ∙ ap close_tag (same_tag items rest last read tag outer is some e))

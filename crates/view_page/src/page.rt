@@ -1,6 +1,6 @@
 //! A page as it is written.
 ghost use Rattle.std.specs.Prelude.{◌≡◌, ◌++◌, ◌∷◌, [], List, IfOk, OnOk, OnErr, map};
-ghost use Rattle.view_page.specs.Pages.{IsPage, arrow_tag, empty_tag, escaped, open_tag, page_end, page_front};
+ghost use Rattle.view_page.specs.Pages.{IsPage, arrow_tag, close_tag, empty_tag, escaped, open_tag, page_end, page_front};
 ghost use Rattle.view_page.specs.declared.words.Tag.{Tag as Tags};
 
 use crate::escape::{WantOfMemory, push_escaped};
@@ -28,6 +28,15 @@ impl Model for Page {
     ghost view = { λ p. record { elements = reverse p.elements.items; marks = map (λ m. m.items) p.marks.items; text = p.text.items } };
 
     ghost invariant = { λ p. IsOpen (reverse p.elements.items) (map (λ m. m.items) p.marks.items) p.text.items };
+}
+
+/// Appends a piece. After want of memory the text is as before.
+fn append(text: &mut Vec<u8>, piece: &[u8]) -> Result<(), WantOfMemory>
+    ensures items { OnOk result (text.new.items ≡ text.old.items ++ piece.now) }
+    ensures err { OnErr result (text.new.items ≡ text.old.items) }
+{
+    text.extend_from_slice(piece)?;
+    Ok(())
 }
 
 impl Page {
@@ -69,11 +78,12 @@ impl Page {
         requires { (tag : Tags) × (outer : List Tags) × (self.old.elements ≡ tag ∷ outer) }
         ensures elements { OnOk result ((tag : Tags) (outer : List Tags) → self.old.elements ≡ tag ∷ outer → self.new.elements ≡ outer) }
         ensures marks { OnOk result (self.new.marks ≡ self.old.marks) }
+        ensures text { OnOk result ((tag : Tags) (outer : List Tags) → self.old.elements ≡ tag ∷ outer → self.new.text ≡ self.old.text ++ close_tag tag) }
         ensures err { OnErr result (self.new ≡ self.old) }
     {
         let tag = self.elements[self.elements.len() - 1];
         let piece = close_tag(self.alloc, tag)?;
-        self.text.extend_from_slice(&piece)?;
+        append(&mut self.text, &piece)?;
         let _ = self.elements.pop();
         Ok(())
     }
@@ -150,6 +160,7 @@ impl Page {
     ) -> Result<(), WantOfMemory>
         ensures elements { OnOk result (self.new.elements ≡ self.old.elements) }
         ensures marks { OnOk result (self.new.marks ≡ self.old.marks) }
+        ensures text { OnOk result (self.new.text ≡ self.old.text ++ open_tag tag (map (λ a. (a.0, a.1.now)) attributes.now) ++ escaped words.now ++ close_tag tag) }
     {
         self.open(tag, attributes)?;
         self.words(words)?;

@@ -1,10 +1,10 @@
 -- A label more waits to be drawn.
-use Rattle.std.proofs.Common.{◌≡◌, List, [], ◌∷◌, ◌++◌, refl, sym, ◌∙◌, ap, append_assoc, append-nil}
+use Rattle.std.proofs.Common.{◌≡◌, List, [], ◌∷◌, ◌++◌, sym, ◌∙◌, ap, append_assoc, append-nil}
 use Rattle.pnp_labels.specs.Texts.{Text}
 use Rattle.pnp_labels.specs.declared.label.Label.{Label}
 use Rattle.view_trace.specs.Asks.{asks, asks_of}
 
-asks_more : (labels : List Label) (label : Label) → asks (labels ++ label ∷ []) ≡ asks labels ++ asks_of label
+pub asks_more : (labels : List Label) (label : Label) → asks (labels ++ label ∷ []) ≡ asks labels ++ asks_of label
 asks_more [] label = append-nil (asks_of label)
 asks_more (first ∷ labels) label = ap (λ (x : List Text). asks_of first ++ x) (asks_more labels label) ∙ sym (append_assoc (asks_of first) (asks labels) (asks_of label))
 
