@@ -124,7 +124,7 @@ fn stepping(steps: bool) -> Option<Stepping<'static>> {
     if steps {
         Some(Stepping {
             policy: POLICY,
-            style: view_states::style(),
+            style: view_states::style_text(),
         })
     } else {
         None

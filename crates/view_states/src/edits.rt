@@ -9,7 +9,7 @@ use pnp_labels::push_decimal;
 const MOST_EDITS: usize = 4096;
 
 /// A line is sought among so many.
-const MOST_SOUGHT: usize = 16;
+const MOST_SOUGHT: usize = 256;
 
 /// What changes at a place: so many bytes go, and so many come.
 #[derive(Clone, Copy)]
@@ -107,11 +107,7 @@ struct Rest<'a> {
 }
 
 /// Appends the first edit that makes a text into another, and answers what stands behind it.
-fn push_first<'a>(
-    out: &mut Vec<u8>,
-    old: &'a [u8],
-    new: &'a [u8],
-) -> Result<Rest<'a>, WantOfMemory>
+fn push_first<'a>(out: &mut Vec<u8>, old: &'a [u8], new: &'a [u8]) -> Result<Rest<'a>, WantOfMemory>
     ensures { IfOk result (λ rest. IsNext out.old.items out.new.items old.now new.now rest.old.now rest.new.now) }
 {
     let stay = same_front(old, new);
@@ -135,5 +131,6 @@ pub fn push_edits(out: &mut Vec<u8>, old: &[u8], new: &[u8]) -> Result<(), WantO
         }
         rest = push_first(out, rest.old, rest.new)?;
     }
-    push_edit(out, 0, rest.old.len(), rest.new)
+    push_edit(out, 0, rest.old.len(), rest.new)?;
+    Ok(())
 }

@@ -7,6 +7,6 @@ mod script;
 mod states;
 mod style;
 
-pub use script::{POLICY, script};
+pub use script::{POLICY, script_text};
 pub use states::States;
-pub use style::style;
+pub use style::style_text;

@@ -3,10 +3,10 @@
 
 /// What the browser may run and load: the script of this sum alone.
 pub const POLICY: &[u8] =
-    b"default-src 'none'; style-src 'unsafe-inline'; script-src 'sha256-HGZbT1O13A7u+iBoee0EHI3XEFDWTOqbs2ovMRQg/bw='";
+    b"default-src 'none'; style-src 'unsafe-inline'; script-src 'sha256-H1utAtXV6Vt6+SuMAHSewUK5iuDCPXCyug8EsWbtsJE='";
 
 /// The script. No character of it is escaped.
-pub fn script() -> &'static [u8] {
+pub fn script_text() -> &'static [u8] {
     br"(function () {
   `use strict`;
   const SECTIONS = [`tree`, `map`, `outstanding`, `handles`];
@@ -97,7 +97,7 @@ pub fn script() -> &'static [u8] {
   }
 
   function field(label, values) {
-    const list = made(`datalist`, { id: `step-` + label }, values.map(function (value) { return made(`option`, { value: value }); }));
+    const list = made(`datalist`, { id: `stepper-` + label }, values.map(function (value) { return made(`option`, { value: value }); }));
     const input = made(`input`, { type: `search`, autocomplete: `off` });
     input.setAttribute(`list`, list.id);
     input.addEventListener(`input`, filter);
@@ -123,9 +123,9 @@ pub fn script() -> &'static [u8] {
   const on = made(`button`, { type: `button`, textContent: `\u25b6`, title: `The next row: right arrow; the next event: with shift` });
   const title = made(`summary`, {});
   const boxes = SECTIONS.map(function () { return made(`pre`, { tabIndex: 0 }); });
-  document.body.append(made(`section`, { className: `step` }, [
-    made(`div`, { className: `step-row` }, [back, slider, on, search, device, driver, count]),
-    made(`details`, { open: true }, [title, made(`div`, { className: `step-boxes` }, SECTIONS.map(function (name, at) {
+  document.body.append(made(`section`, { className: `stepper` }, [
+    made(`div`, { className: `stepper-row` }, [back, slider, on, search, device, driver, count]),
+    made(`details`, { open: true }, [title, made(`div`, { className: `stepper-boxes` }, SECTIONS.map(function (name, at) {
       return made(`div`, {}, [made(`h2`, { textContent: name }), boxes[at]]);
     }))]),
   ]));

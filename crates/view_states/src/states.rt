@@ -6,17 +6,17 @@ ghost use Rattle.view_page.specs.declared.words.Tag.{Tag as Tags};
 ghost use Rattle.view_states.specs.States.{Tells};
 
 use crate::edits::push_edits;
-use crate::script::script;
+use crate::script::script_text;
 use device_ids::WantOfMemory;
 use std::alloc::Global;
 use std::marker::Model;
 use view_page::{Attribute, Page, Tag};
 
 /// Each row is told until the texts of the states have come to so many bytes.
-const BYTES_TOLD: usize = 33_554_432;
+const BYTES_TOLD: usize = 25_165_824;
 
 /// From there on a text of so many bytes is told once in a row, and a longer one less often.
-const BYTES_A_ROW: usize = 1024;
+const BYTES_A_ROW: usize = 256;
 
 /// The states behind the rows so far: what is written of them, the text that was told last, how many bytes may still be told of each
 /// row, and for how many rows nothing is told. A contract sees the first two. This project's own.
@@ -103,6 +103,6 @@ impl States {
             ],
             &self.written,
         )?;
-        page.element(Tag::Script, &[], script())
+        page.element(Tag::Script, &[], script_text())
     }
 }

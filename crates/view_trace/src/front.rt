@@ -31,6 +31,14 @@ fn draw_policy(page: &mut Page, stepping: Option<Stepping<'_>>) -> Result<(), Wa
     }
 }
 
+/// The style of what is made where a page is stepped through.
+fn style_of<'a>(stepping: Option<Stepping<'a>>) -> &'a [u8] {
+    match stepping {
+        Some(stepping) => stepping.style,
+        None => b"",
+    }
+}
+
 /// The style of the page, of what else it has, and of what is made where it is stepped through: no character of them is escaped.
 fn draw_style(
     page: &mut Page,
@@ -43,9 +51,7 @@ fn draw_style(
     page.open(Tag::Style, &[])?;
     page.words(style())?;
     page.words(more)?;
-    if let Some(stepping) = stepping {
-        page.words(stepping.style)?;
-    }
+    page.words(style_of(stepping))?;
     page.close()
 }
 

@@ -11,8 +11,20 @@ pub behind : (old new : Text) (stay go come : ℕ) → take stay old ≡ take st
 behind old new stay go come same edits is =
     ap (λ (t : Text). t ++ take come (drop stay new) ++ edited edits (drop go (drop stay old))) same
     ∙ ap (λ (t : Text). take stay new ++ take come (drop stay new) ++ t) is
+    ∙ append_assoc (take stay new) (take come (drop stay new)) (drop come (drop stay new))
     ∙ ap (λ (t : Text). take stay new ++ t) (take-append-drop come (drop stay new))
     ∙ take-append-drop stay new
+
+-- the same, as it is cut
+pub next_by : (before after old new old_back new_back old_rest come new_rest : Text) (stay go size : ℕ) → take stay old ≡ take stay new → old_back ≡ drop stay old → new_back ≡ drop stay new → old_rest ≡ drop go old_back
+    → come ≡ take size new_back → new_rest ≡ drop size new_back → after ≡ before ++ edit_text (record { stay = stay; go = go; come = come }) → IsNext before after old new old_rest new_rest
+next_by before after old new old_back new_back old_rest come new_rest stay go size same olds news gone comes rest is = record {
+  edit = record { stay = stay; go = go; come = come };
+  written = is;
+  leads = λ edits leads.
+      ap (λ (t : Text). take stay old ++ t ++ edited edits (drop go (drop stay old))) (comes ∙ ap (take size) news)
+      ∙ behind old new stay go size same edits (ap (edited edits) (sym (gone ∙ ap (drop go) olds)) ∙ leads ∙ rest ∙ ap (drop size) news);
+}
 
 pub edits_more : (edits : List Edit) (edit : Edit) → edits_text (edits ++ edit ∷ []) ≡ edits_text edits ++ edit_text edit
 edits_more [] edit = append-nil (edit_text edit)
@@ -51,3 +63,10 @@ replaced before mid after old new old_rest new_rest far is =
       written = is;
       leads = λ edits none. ap (λ (t : Text). new_rest ++ edited edits t) (drop-length old_rest) ∙ ap (λ (t : Text). new_rest ++ t) none ∙ append-nil new_rest;
     })) refl
+
+-- What is told of a row -------------------------------------------------------------------
+
+pub told_more : (written mid after last text : Text) (rows : List (Option Text)) → Tells written rows last → IsEdited written mid last text → after ≡ mid ++ 10 ∷ [] → Tells after (rows ++ Some text ∷ []) text
+told_more written mid after last text rows h e is =
+    subst (λ (x : Text). Tells after (rows ++ Some x ∷ []) x) e.is
+    (subst (λ (w : Text). Tells w (rows ++ Some (edited e.edits last) ∷ []) (edited e.edits last)) (sym (is ∙ ap (λ (t : Text). t ++ 10 ∷ []) e.written)) (Tells.told written rows last e.edits h))
