@@ -3,7 +3,7 @@
 
 /// What the browser may run and load: the script of this sum alone.
 pub const POLICY: &[u8] =
-    b"default-src 'none'; style-src 'unsafe-inline'; script-src 'sha256-H1utAtXV6Vt6+SuMAHSewUK5iuDCPXCyug8EsWbtsJE='";
+    b"default-src 'none'; style-src 'unsafe-inline'; script-src 'sha256-O0N9QhXv2fvDC37+1F5rGcZYmy/Wx41M4X7lvLgZ8oE='";
 
 /// The script. No character of it is escaped.
 pub fn script_text() -> &'static [u8] {
@@ -77,15 +77,15 @@ pub fn script_text() -> &'static [u8] {
     return known;
   }
 
+  // The lines of each section, which its name stands before.
   function sections(text) {
+    const all = `\n` + text;
     const parts = {};
-    let name = ``;
-    for (const line of text.split(`\n`)) {
-      if (SECTIONS.includes(line)) {
-        name = line;
-        parts[name] = [];
-      } else if (line !== ``) parts[name].push(line);
-    }
+    SECTIONS.reduceRight(function (end, name) {
+      const at = all.indexOf(`\n` + name + `\n`);
+      parts[name] = at === -1 ? `` : all.slice(at + name.length + 2, end);
+      return at === -1 ? end : at + 1;
+    }, all.length);
     return parts;
   }
 
@@ -132,8 +132,13 @@ pub fn script_text() -> &'static [u8] {
 
   // The lines of a section; those are marked that were not there before the row.
   function marked(now, old) {
-    const had = new Set(old);
-    return now.flatMap(function (line) { return had.has(line) ? [line + `\n`] : [made(`mark`, { textContent: line }), `\n`]; });
+    const had = new Set(old.split(`\n`));
+    const parts = [``];
+    for (const line of now === old ? [] : now.split(`\n`).slice(0, -1)) {
+      if (!had.has(line)) parts.push(made(`mark`, { textContent: line }), ``);
+      parts.push(parts.pop() + (had.has(line) ? line : ``) + `\n`);
+    }
+    return now === old ? [now] : parts;
   }
 
   let here = 0;
@@ -150,10 +155,11 @@ pub fn script_text() -> &'static [u8] {
     const told = known.row === row ? `` : known.row === -1 ? ` (nothing is told of its state)` : ` (the state behind row ` + (known.row + 1) + `)`;
     title.textContent = `Behind row ` + (row + 1) + `: ` + lines[row] + told;
     SECTIONS.forEach(function (name, at) {
-      boxes[at].replaceChildren.apply(boxes[at], marked(now[name] || [], known.row === row ? was[name] : now[name]));
-      boxes[at].parentNode.hidden = name === `handles` ? !now[name] : false;
+      const parts = marked(now[name], known.row === row ? was[name] : now[name]);
+      boxes[at].replaceChildren.apply(boxes[at], parts);
       const first = boxes[at].querySelector(`mark`);
       if (first) boxes[at].scrollTop = first.offsetTop - boxes[at].offsetTop - 32;
+      boxes[at].parentNode.hidden = name === `handles` ? now[name] === `` : false;
     });
   }
 
