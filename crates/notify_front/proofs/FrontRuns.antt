@@ -1,23 +1,25 @@
 -- The front's runs, one step or event further.
-use Rattle.std.proofs.Common.{ℕ, ◌≡◌, ◌+◌, Result, Ok, Err, IfOk, OnOk, OnErr, List, [], ◌∷◌, ◌++◌, None, refl, sym, ap, ◌∙◌, subst, arith}
+use Rattle.std.proofs.Common.{ℕ, ◌≡◌, ◌+◌, Bool, true, false, Option, Some, ◌⊎◌, inl, inr, Result, Ok, Err, IfOk, OnOk, OnErr, List, [], ◌∷◌, ◌++◌, None, refl, sym, ap, ◌∙◌, subst, option_map, reverse, arith}
 use Rattle.std.specs.List.{AllByRecursion}
 use Rattle.std.specs.declared.alloc.AllocError.{AllocError}
 use Rattle.pnp_labels.specs.declared.label.OpKind.{OpKind}
 use Rattle.pnp_labels.specs.declared.event.Event.{Event}
 use Rattle.pnp_labels.specs.declared.label.Label.{Label}
 use Rattle.pnp_model.specs.Machine as ma
-use Rattle.pnp_model.specs.Records.{Beginning, Driver, Settings, State}
+use Rattle.pnp_model.specs.Records.{Beginning, Driver, Settings, State, doing_map}
 use Rattle.pnp_model.specs.Runs.{Entry, opening}
 use Rattle.pnp_laws.specs.Needs.{IsEntryWithin, IsEventWithin}
 use Rattle.pnp_laws.specs.Ends.{events}
-use Rattle.pnp_machine.specs.Managers.{Manager, settings}
+use Rattle.pnp_machine.specs.Managers.{IfQuiet, Manager, settings}
 use Rattle.pnp_machine.specs.declared.manager.Moved.{Moved}
 use Rattle.pnp_machine.specs.declared.manager.Moved.TheVariants.{Label as Printed, Quiet}
-use Rattle.notify_front.specs.Fronts.{Front, FrontEntry, Hand, IsFrontQuiet, Registration, front_happens, opening_front}
+use Rattle.notify_front.specs.Fronts.{Front, FrontEntry, Hand, IsFrontQuiet, Registration, front_happens, front_next, lifted, machine_next, opening_front, running}
 use Rattle.notify_front.specs.Notices.{FrontGoes, FrontRun, machine_part}
 use Rattle.notify_front.specs.Laws.{IsOwn}
-use Rattle.notify_front.specs.Desks.{Desk, FrontLawsOf, FrontMoves, IsFrontDone, IsOfFrontRun, front_of, machine_events, opening_desk, told_of}
-use Rattle.notify_front.specs.Hands.{AllAgreed, AllCancelled, IsBegun, begins}
+use Rattle.notify_front.specs.Desks.{Desk, FrontLawsOf, FrontMoves, IfFrontQuiet, IsFrontDone, IsOfFrontRun, front_of, machine_events, opening_desk, told_of}
+use Rattle.notify_front.specs.declared.round.Turn.{Turn}
+use Rattle.notify_front.specs.Hands.{AllAgreed, AllCancelled, IsBegun, IsRunning, IsTurn, begins}
+use Rattle.notify_front.proofs.Moving.{begin_next, due_not_quiet, none_next, run_next}
 use Rattle.notify_front.proofs.OwnSteps.{goes_on, own_step}
 use Rattle.notify_front.proofs.Runs.{Fits, IsReady, keeps_core, machine_run, quiet_hand}
 use Rattle.notify_front.proofs.Told.{all_asked, part_on, reached_kept}
@@ -120,6 +122,32 @@ ready_of s hand first agreed left is fits = subst (λ (x : Hand). Fits s x) is f
 -- the machine of a quiet front is quiet
 pub machine_quiet : (told : Settings) (n : ℕ) (f : Front) → IsOfFrontRun told n f → IsFrontQuiet told f → ma.next told f.state ≡ None
 machine_quiet told n f h quiet = (quiet_hand told f f.hand (fits_of told n f h) quiet).quiet
+
+-- and where nothing is at hand, the front of a quiet machine
+idle_quiet : (told : Settings) (f : Front) → f.hand ≡ Hand.Nothing → ma.next told f.state ≡ None → IsFrontQuiet told f
+idle_quiet told f idle quiet = by_due (ma.due f.state) refl
+  where
+    by_due : (o : Option Beginning) → ma.due f.state ≡ o → IsFrontQuiet told f
+    by_due None due = none_next told f idle due ∙ ap (option_map (doing_map (lifted f Hand.Nothing))) quiet
+    by_due (Some first) due = absurd (due_not_quiet told f first due quiet)
+
+-- as is one whose next step is the machine's, whatever is at hand
+by_machine : (told : Settings) (f : Front) (hand : Hand) → front_next told f ≡ machine_next told f hand → ma.next told f.state ≡ None → IsFrontQuiet told f
+by_machine told f hand is quiet = is ∙ ap (option_map (doing_map (lifted f hand))) quiet
+
+turn_quiet : (told : Settings) (f : Front) (turn : Turn) → (turn ≡ Turn.Idle) ⊎ ((turn ≡ Turn.Begin) ⊎ (turn ≡ Turn.Run)) → IsTurn turn f.hand → ma.next told f.state ≡ None → IsFrontQuiet told f
+turn_quiet told f turn (inl is) h quiet = idle_quiet told f (subst (λ (t : Turn). IsTurn t f.hand) is h) quiet
+turn_quiet told f turn (inr (inl is)) h quiet =
+    let all : AllAgreed f.hand = subst (λ (t : Turn). IsTurn t f.hand) is h in
+    by_machine told f (running (reverse all.agreed)) (begin_next told f all.first all.agreed all.is) quiet
+turn_quiet told f turn (inr (inr is)) h quiet =
+    let runs : IsRunning f.hand = subst (λ (t : Turn). IsTurn t f.hand) is h in
+    by_machine told f f.hand (run_next told f runs.told runs.is) quiet
+
+-- so where no client is told and nothing is declined, a test of the machine is one of the front
+pub tells_quiet : (b : Bool) (told : Settings) (n : ℕ) (f : Front) (turn : Turn) → IsOfFrontRun told n f → (turn ≡ Turn.Idle) ⊎ ((turn ≡ Turn.Begin) ⊎ (turn ≡ Turn.Run)) → IsTurn turn f.hand → IfQuiet b told f.state → IfFrontQuiet b told f
+tells_quiet true told n f turn h is at quiet = turn_quiet told f turn is at quiet
+tells_quiet false told n f turn h is at busy = λ quiet. busy (machine_quiet told n f h quiet)
 
 -- Desks --------------------------------------------------------------------------------------------
 
