@@ -1,5 +1,6 @@
 -- The page for a play, and for a script.
-use Rattle.std.proofs.Common.{◌≡◌, ℕ, ◌<◌, Bool, true, false, List, [], ◌∷◌, ◌++◌, Option, Some, None, IfOk, Result, Ok, Err, refl, sym, ◌∙◌, ap, subst, append_assoc, codes}
+use Rattle.std.proofs.Common.{◌≡◌, ℕ, ◌<◌, Bool, true, false, List, [], ◌∷◌, ◌++◌, Option, Some, None, IfOk, Result, Ok, Err, refl, sym, ◌∙◌, ap, subst, append_assoc, codes, drop, take}
+use Rattle.std.proofs.lemmas.List.{take-append-drop}
 use Rattle.std.specs.Fmt.{decimal}
 use Rattle.pnp_labels.specs.Texts.{Text}
 use Rattle.pnp_labels.specs.declared.label.Label.{Label}
@@ -9,7 +10,7 @@ use Rattle.notify_front.specs.Fronts.{Front, opening_front}
 use Rattle.notify_front.specs.Desks.{Desk, front_of, told_of, opening_desk}
 use Rattle.script_reader.specs.Script.{Trace}
 use Rattle.pnp_cli.specs.Contents.{events_of}
-use Rattle.pnp_cli.specs.Outputs.{bad_text, end_text, error_line}
+use Rattle.pnp_cli.specs.Outputs.{end_text}
 use Rattle.pnp_cli.specs.Pieces.{answer_by, line_of_bad}
 use Rattle.pnp_cli.specs.declared.status.Status.{Status}
 use Rattle.script_play.specs.Playing.{Playing, Played, PlaysOn, Begins, Stepped, StepTold, EventTold, left_of}
@@ -22,7 +23,7 @@ use Rattle.view_page.specs.declared.words.Tag.{Tag}
 use Rattle.view_trace.specs.Rows.{row_of, rows}
 use Rattle.view_trace.proofs.Taken.{rows_more}
 use Rattle.view_states.specs.States.{Telling, Tells}
-use Rattle.view_cli.specs.Viewed.{AreEnds, BadMarks, Drawing, Drawn, Finished, IsOfNow, IsReached, IsToldOf, IsViewing, StateMarks, TellsNext, TellsStates, ViewsPlay}
+use Rattle.view_cli.specs.Viewed.{AreEnds, BadMarks, Drawing, Drawn, EndsBy, Finished, IsEnd, IsOfNow, IsReached, IsViewing, StateMarks, TellsNext, TellsStates, ViewsPlay, bad_marks, second_marks, state_marks}
 use Rattle.view_cli.specs.declared.viewed.Viewed.{Viewed}
 
 -- the rows of one label more
@@ -116,13 +117,40 @@ drawn_by start old new marks states o is ended w =
 -- Behind the rows ---------------------------------------------------------------------------
 
 -- the bad line, as the output has it
-pub bad_line : (number : ℕ) (words : Text) → words ≡ codes "script error line " ++ decimal number → BadMarks (error_line number) ((Part.Words Tag.P, words) ∷ [])
-bad_line number words is =
-    subst (λ (x : Text). BadMarks x ((Part.Words Tag.P, words) ∷ [])) (ap (λ (x : Text). x ++ 10 ∷ []) is) (BadMarks.line words)
+bad_line : (bad : Option ℕ) → BadMarks (line_of_bad bad) (bad_marks bad)
+bad_line None = BadMarks.none
+bad_line (Some number) = BadMarks.line (codes "script error line " ++ decimal number)
 
-states_marked : (steps : Bool) (s : Settings) (f : Front) (t : Trace) (labels : List Label) (told : Telling) (marks : List Mark) → TellsStates s f t labels told → IsToldOf steps told marks → StateMarks steps s f t labels marks
-states_marked false s f t labels told marks h is = is
-states_marked true s f t labels told marks h is = (told, h, is)
+-- the end, where it is cut
+pub ended_by : (text first second : Text) (at : ℕ) (old mid new : List Mark) → first ≡ take at text → second ≡ drop at text → mid ≡ old ++ (Part.Words Tag.Pre, first) ∷ [] → new ≡ mid ++ second_marks second → EndsBy text old new
+ended_by text first second at old mid new front back begins ends = record {
+  marks = (Part.Words Tag.Pre, first) ∷ second_marks second;
+  is = record {
+    first = first;
+    second = second;
+    all = sym (ap (λ (t : Text). t ++ second) front ∙ ap (λ (t : Text). take at text ++ t) back ∙ take-append-drop at text);
+    marked = refl;
+  };
+  added = ends ∙ ap (λ (m : List Mark). m ++ second_marks second) begins ∙ append_assoc old ((Part.Words Tag.Pre, first) ∷ []) (second_marks second);
+}
+
+-- all that stands behind the rows
+pub finished_by : (steps : Bool) (start now : Playing) (lines rowed badly rested ended told marks : List Mark) (states here : Telling) (bad : Option ℕ) (ending : Text) → Drawn start lines states now → here ≡ states → bad ≡ now.bad
+    → ending ≡ end_text (front_of now.desk).state → rowed ≡ lines → badly ≡ rowed ++ bad_marks bad → rested ≡ badly → EndsBy ending rested ended → told ≡ ended ++ state_marks steps here → marks ≡ told → Finished steps start marks now
+finished_by steps start now lines rowed badly rested ended told marks states here bad ending drawn same number text is_rowed is_bad is_rested end is_told is = record {
+  lines = lines;
+  states = states;
+  end = end.marks;
+  drawn = drawn;
+  is_end = subst (λ (t : Text). IsEnd t end.marks) text end.is;
+  all =
+      is ∙ is_told ∙ ap (λ (h : Telling). ended ++ state_marks steps h) same ∙ ap (λ (m : List Mark). m ++ state_marks steps states) (end.added ∙ ap (λ (m : List Mark). m ++ end.marks)
+      (is_rested ∙ is_bad ∙ ap (λ (b : Option ℕ). rowed ++ bad_marks b) number ∙ ap (λ (m : List Mark). m ++ bad_marks now.bad) is_rowed));
+}
+
+states_marked : (steps : Bool) (s : Settings) (f : Front) (t : Trace) (labels : List Label) (states : Telling) → TellsStates s f t labels states → StateMarks steps s f t labels (state_marks steps states)
+states_marked false s f t labels states h = refl
+states_marked true s f t labels states h = (states, h, refl)
 
 -- a page on which all is drawn is the page of the play
 pub viewed_by : (steps : Bool) (start now : Playing) (marks : List Mark) (text : Text) (status : Status) → Finished steps start marks now → IsPage marks text → status ≡ answer_by now.bad → ViewsPlay steps start text status
@@ -132,13 +160,13 @@ viewed_by steps start now marks text status f page answer =
         labels = f.drawn.labels;
         last = front_of now.desk;
         plays = f.drawn.ended.plays;
-        bad = f.bad;
+        bad = bad_marks now.bad;
         end = f.end;
-        states = f.states;
-        is_bad = subst (λ (x : Text). BadMarks x f.bad) (sym f.drawn.ended.bad) f.is_bad;
+        states = state_marks steps f.states;
+        is_bad = subst (λ (x : Text). BadMarks x (bad_marks now.bad)) (sym f.drawn.ended.bad) (bad_line now.bad);
         is_end = f.is_end;
-        is_told = states_marked steps (told_of start.desk) (front_of start.desk) (left_of start) f.drawn.labels f.told f.states f.drawn.told f.are_states;
-        page = subst (λ (m : List Mark). IsPage m text) (f.all ∙ ap (λ (l : List Mark). l ++ f.bad ++ f.end ++ f.states) f.drawn.lines) page;
+        is_told = states_marked steps (told_of start.desk) (front_of start.desk) (left_of start) f.drawn.labels f.states f.drawn.told;
+        page = subst (λ (m : List Mark). IsPage m text) (f.all ∙ ap (λ (l : List Mark). l ++ bad_marks now.bad ++ f.end ++ state_marks steps f.states) f.drawn.lines) page;
       };
       answer = f.drawn.ended.answer ∙ sym answer;
     }

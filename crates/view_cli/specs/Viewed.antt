@@ -1,5 +1,6 @@
 -- The page for a play of a script: a line for each label of its run, an arrow for each ask, how it ends, and the states behind its rows.
-use Rattle.std.specs.Prelude.{◌≡◌, Bool, true, false, List, [], ◌∷◌, ◌++◌, Option, Some, None}
+use Rattle.std.specs.Prelude.{ℕ, ◌≡◌, Bool, true, false, List, [], ◌∷◌, ◌++◌, Option, Some, None, codes}
+use Rattle.std.specs.Fmt.{decimal}
 use Rattle.pnp_labels.specs.Texts.{Text}
 use Rattle.pnp_labels.specs.declared.label.Label.{Label}
 use Rattle.pnp_model.specs.Records.{Settings}
@@ -8,7 +9,6 @@ use Rattle.notify_front.specs.Desks.{front_of, told_of}
 use Rattle.script_reader.specs.Script.{Trace}
 use Rattle.pnp_cli.specs.Outputs.{Plays, bad_text, end_text}
 use Rattle.pnp_cli.specs.Contents.{answer_of}
-use Rattle.pnp_cli.specs.Pieces.{line_of_bad}
 use Rattle.pnp_cli.specs.declared.status.Status.{Status}
 use Rattle.script_play.specs.Playing.{Playing, Played, PlaysOn, Ended, left_of}
 use Rattle.view_page.specs.Pages.{IsPage, Mark}
@@ -44,15 +44,27 @@ pub data BadMarks : Text → List Mark → Type 0 where
   none : BadMarks [] []
   line : (words : Text) → BadMarks (words ++ 10 ∷ []) ((Part.Words Tag.P, words) ∷ [])
 
--- the end of the output, in one element or in two
-pub data EndMarks : Text → List Mark → Type 0 where
-  whole : (text : Text) → EndMarks text ((Part.Words Tag.Pre, text) ∷ [])
-  halves : (first second : Text) → EndMarks (first ++ second) ((Part.Words Tag.Pre, first) ∷ (Part.Words Tag.Pre, second) ∷ [])
+-- what stands of a text in an element of its own, where it is not empty
+abbrev pub second_marks : Text → List Mark
+second_marks [] = []
+second_marks (byte ∷ text) = (Part.Words Tag.Pre, byte ∷ text) ∷ []
+
+-- a text in one element or in two
+pub record IsEnd (text : Text) (marks : List Mark) : Type 0 where
+  pub first : Text
+  pub second : Text
+  pub all : text ≡ first ++ second
+  pub marked : marks ≡ (Part.Words Tag.Pre, first) ∷ second_marks second
+
+-- the states, where they are wanted
+abbrev pub state_marks : Bool → Telling → List Mark
+state_marks false states = []
+state_marks true states = (Part.Words Tag.Data, states.written) ∷ []
 
 -- what is told of the states behind the rows, where it is wanted
 abbrev pub StateMarks : Bool → Settings → Front → Trace → List Label → List Mark → Type 0
 StateMarks false settings f t labels marks = marks ≡ []
-StateMarks true settings f t labels marks = (states : Telling) × TellsStates settings f t labels states × (marks ≡ (Part.Words Tag.Data, states.written) ∷ [])
+StateMarks true settings f t labels marks = (states : Telling) × TellsStates settings f t labels states × (marks ≡ state_marks true states)
 
 -- The events of a script happen from a front on, and a text is a page of their run: it has the line of each label, in order, with an arrow
 -- for each ask and no other, the bad line, the end of the output, and the states behind its rows, where they are wanted.
@@ -64,7 +76,7 @@ pub record IsRunView (steps : Bool) (settings : Settings) (f : Front) (t : Trace
   pub end : List Mark
   pub states : List Mark
   pub is_bad : BadMarks (bad_text t) bad
-  pub is_end : EndMarks (end_text last.state) end
+  pub is_end : IsEnd (end_text last.state) end
   pub is_told : StateMarks steps settings f t labels states
   pub page : IsPage (rows labels ++ bad ++ end ++ states) text
 
@@ -104,20 +116,22 @@ pub record TellsNext (old : Telling) (now : Playing) (new : Telling) : Type 0 wh
   pub is : IsOfNow text now
   pub tells : (texts : List (Option Text)) → Tells old.written texts old.last → Tells new.written (texts ++ text ∷ []) new.last
 
--- the states, where they are wanted
-abbrev pub IsToldOf : Bool → Telling → List Mark → Type 0
-IsToldOf false told marks = marks ≡ []
-IsToldOf true told marks = marks ≡ (Part.Words Tag.Data, told.written) ∷ []
+-- the bad line by its number
+abbrev pub bad_marks : Option ℕ → List Mark
+bad_marks None = []
+bad_marks (Some number) = (Part.Words Tag.P, codes "script error line " ++ decimal number) ∷ []
+
+-- the end is drawn
+pub record EndsBy (text : Text) (old new : List Mark) : Type 0 where
+  pub marks : List Mark
+  pub is : IsEnd text marks
+  pub added : new ≡ old ++ marks
 
 -- all is drawn
 pub record Finished (steps : Bool) (start : Playing) (marks : List Mark) (now : Playing) : Type 0 where
   pub lines : List Mark
-  pub told : Telling
-  pub bad : List Mark
+  pub states : Telling
   pub end : List Mark
-  pub states : List Mark
-  pub drawn : Drawn start lines told now
-  pub is_bad : BadMarks (line_of_bad now.bad) bad
-  pub is_end : EndMarks (end_text (front_of now.desk).state) end
-  pub are_states : IsToldOf steps told states
-  pub all : marks ≡ lines ++ bad ++ end ++ states
+  pub drawn : Drawn start lines states now
+  pub is_end : IsEnd (end_text (front_of now.desk).state) end
+  pub all : marks ≡ lines ++ bad_marks now.bad ++ end ++ state_marks steps states

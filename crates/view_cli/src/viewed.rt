@@ -1,17 +1,17 @@
 //! The whole page for a script: the rows of all labels, and the end of the output.
-ghost use Rattle.std.specs.Prelude.{◌≡◌, ◌≤◌, ◌++◌, ◌∷◌, [], List, IfOk, OnOk, length};
+ghost use Rattle.std.specs.Prelude.{◌≡◌, ◌≤◌, ◌++◌, ◌∷◌, [], IfOk, OnOk, length};
 ghost use Rattle.notify_front.specs.Desks.{IsAtStart};
 ghost use Rattle.notify_front.specs.Fronts.{opening_front};
-ghost use Rattle.pnp_cli.specs.Pieces.{answer_by, line_of_bad};
+ghost use Rattle.pnp_cli.specs.Pieces.{answer_by};
 ghost use Rattle.pnp_cli.specs.Contents.{events_of};
 ghost use Rattle.pnp_cli.specs.Runs.{machine};
 ghost use Rattle.pnp_machine.specs.Managers.{settings};
 ghost use Rattle.pnp_model.specs.Runs.{opening};
 ghost use Rattle.script_play.specs.Playing.{Played};
-ghost use Rattle.view_page.specs.Pages.{IsPage, Mark};
+ghost use Rattle.view_page.specs.Pages.{IsPage};
 ghost use Rattle.view_page.specs.declared.words.Part.{Part};
 ghost use Rattle.view_page.specs.declared.words.Tag.{Tag as Tags};
-ghost use Rattle.view_cli.specs.Viewed.{Finished, IsViewing, ViewsPlay, BadMarks, EndMarks, IsToldOf};
+ghost use Rattle.view_cli.specs.Viewed.{EndsBy, Finished, IsViewing, ViewsPlay, bad_marks, second_marks, state_marks};
 
 use crate::drawing::draw_all;
 use crate::sketch::Sketch;
@@ -59,14 +59,16 @@ fn answer(bad: Option<u64>) -> Status
 /// Tells of a bad line, if there is one.
 fn draw_bad(alloc: Global, bad: Option<u64>, page: &mut Page) -> Result<(), WantOfMemory>
     ensures elements { OnOk result (page.new.elements ≡ page.old.elements) }
-    ensures marks { OnOk result ((marks : List Mark) × BadMarks (line_of_bad bad) marks × (page.new.marks ≡ page.old.marks ++ marks)) }
+    ensures marks { OnOk result (page.new.marks ≡ page.old.marks ++ bad_marks bad) }
 {
-    let Some(line) = bad else {
-        return Ok(());
-    };
-    let mut words = Vec::from_slice(alloc, b"script error line ")?;
-    push_decimal(&mut words, line)?;
-    page.marked(Tag::P, &[(Attribute::Class, b"bad")], &words)
+    match bad {
+        Some(line) => {
+            let mut words = Vec::from_slice(alloc, b"script error line ")?;
+            push_decimal(&mut words, line)?;
+            page.marked(Tag::P, &[(Attribute::Class, b"bad")], &words)
+        }
+        None => Ok(()),
+    }
 }
 
 /// Where in the end of the output that stands which no drawing shows: what is outstanding, and open handles; its length, where there is
@@ -97,24 +99,35 @@ fn draw_drawn(ending: &[u8], page: &mut Page) -> Result<(), WantOfMemory>
     page.close()
 }
 
+/// The part of the end of the output that stands nowhere else, where there is one.
+fn draw_second(rest: &[u8], page: &mut Page) -> Result<(), WantOfMemory>
+    ensures elements { OnOk result (page.new.elements ≡ page.old.elements) }
+    ensures marks { OnOk result (page.new.marks ≡ page.old.marks ++ second_marks rest.now) }
+{
+    match rest {
+        [] => Ok(()),
+        [_, ..] => {
+            page.element(Tag::H2, &[], b"Outstanding at the end")?;
+            page.marked(Tag::Pre, &[(Attribute::Tabindex, b"0")], rest)
+        }
+    }
+}
+
 /// The end of the output.
 fn draw_ending(ending: &[u8], page: &mut Page) -> Result<(), WantOfMemory>
     ensures elements { OnOk result (page.new.elements ≡ page.old.elements) }
-    ensures marks { OnOk result ((marks : List Mark) × EndMarks ending.now marks × (page.new.marks ≡ page.old.marks ++ marks)) }
+    ensures marks { OnOk result (EndsBy ending.now page.old.marks page.new.marks) }
 {
     let (drawn, rest) = ending.split_at(place_of_rest(ending));
     draw_drawn(drawn, page)?;
-    if rest.is_empty() {
-        return Ok(());
-    }
-    page.element(Tag::H2, &[], b"Outstanding at the end")?;
-    page.marked(Tag::Pre, &[(Attribute::Tabindex, b"0")], rest)
+    draw_second(rest, page)?;
+    Ok(())
 }
 
 /// The states behind the rows, where they are wanted.
 fn draw_states(steps: bool, states: &States, page: &mut Page) -> Result<(), WantOfMemory>
     ensures elements { OnOk result (page.new.elements ≡ page.old.elements) }
-    ensures marks { OnOk result ((marks : List Mark) × IsToldOf steps states.now marks × (page.new.marks ≡ page.old.marks ++ marks)) }
+    ensures marks { OnOk result (page.new.marks ≡ page.old.marks ++ state_marks steps states.now) }
 {
     if steps { states.draw(page) } else { Ok(()) }
 }
