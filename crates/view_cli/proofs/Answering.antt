@@ -31,3 +31,7 @@ module _ (s : Settings) (name : Text) (script : s.script ≡ Some name) (check :
   rose_for old new h =
       subst (λ (o : Option Text). SomeRose old new (names_by s.infs o s.script)) (sym check)
       (subst (λ (o : Option Text). SomeRose old new (names_of s.infs o)) (sym script) h)
+
+-- whatever is said of words with an option and without
+pub as_asked : (words plain : List Text) (steps asked : Bool) (Says : Bool → List Text → Type 0) → words ≡ plain → steps ≡ asked → Says steps words → Says asked plain
+as_asked words plain steps asked Says same is h = subst (λ (b : Bool). Says b plain) is (subst (Says steps) same h)

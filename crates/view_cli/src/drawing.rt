@@ -15,13 +15,21 @@ use std::alloc::Global;
 use view_page::Page;
 use view_states::States;
 
+/// The state that is there now is told.
+fn tell_now<R: Drivers>(play: &Play<R>, states: &mut States) -> Result<(), WantOfMemory>
+    ensures { OnOk result (TellsNext states.old play.now states.new) }
+{
+    let text = play.ending()?;
+    states.tell(text)?;
+    Ok(())
+}
+
 /// The state that is there now is told, where it is due.
 fn tell_state<R: Drivers>(play: &Play<R>, states: &mut States) -> Result<(), WantOfMemory>
     ensures { OnOk result (TellsNext states.old play.now states.new) }
 {
     if states.is_due() {
-        let text = play.ending()?;
-        states.tell(text)
+        tell_now(play, states)
     } else {
         states.pass()
     }

@@ -3,7 +3,7 @@
 /// The style of the page. No character of it is escaped.
 pub fn style() -> &'static [u8] {
     b":root{color-scheme:light dark;--ink:#1b1d23;--soft:#565b68;--paper:#ffffff;--band:#eef1f6;--rule:#cfd4de;--ok:#17692e;--fail:#b3261e;--pend:#8a5a00;--violation:#7a2ea8;--mark:#0b5cad}\n\
-@media (prefers-color-scheme:dark){:root{--ink:#e7e9ee;--soft:#a4abb9;--paper:#14161a;--band:#1f232b;--rule:#3a404c;--ok:#6fcf86;--fail:#ff8a80;--pend:#e8b04a;--violation:#d7a0ff;--mark:#7ab8ff}}\n\
+@media screen and (prefers-color-scheme:dark){:root{--ink:#e7e9ee;--soft:#a4abb9;--paper:#14161a;--band:#1f232b;--rule:#3a404c;--ok:#6fcf86;--fail:#ff8a80;--pend:#e8b04a;--violation:#d7a0ff;--mark:#7ab8ff}}\n\
 *,::before{box-sizing:border-box}\n\
 body{display:flex;flex-direction:column;margin:0;padding:1rem;background:var(--paper);color:var(--ink);font:1rem/1.5 system-ui,sans-serif}\n\
 h1{font-size:1.4rem;margin:0;overflow-wrap:anywhere}\n\
