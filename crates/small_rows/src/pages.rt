@@ -6,7 +6,7 @@ use std::test::Fail;
 use view_page::{Attribute, Empty, Page, Tag};
 
 const PAGE: &[u8] =
-    b"<!DOCTYPE html>\n<html lang=\"en\">\n<body><p class=\"a&quot;b\" id=\"x\">a &lt; b</p><br/><path data-mark=\"one &amp; two\" d=\"M0 0\"/></body></html>\n";
+    b"<!DOCTYPE html>\n<html lang=\"en\">\n<body><p class=\"a&quot;b\" id=\"x\">a &lt; b</p><br/><code>c &gt; d</code><path data-mark=\"one &amp; two\" d=\"M0 0\"/></body></html>\n";
 
 /// Puts in each sort of content, and leaves open what was open.
 fn put_content(page: &mut Page) -> Result<(), Fail>
@@ -19,6 +19,7 @@ fn put_content(page: &mut Page) -> Result<(), Fail>
         b"a < b",
     )?;
     page.empty(Empty::Br, &[])?;
+    page.marked(Tag::Code, &[], b"c > d")?;
     page.arrow(b"one & two", &[(Attribute::D, b"M0 0")])?;
     page.close()?;
     Ok(())

@@ -1,5 +1,5 @@
 -- What was written and answered, by the settings that the words give.
-use Rattle.std.proofs.Common.{◌≡◌, ◌++◌, ◌∷◌, [], ℕ, List, Option, Some, None, IfSome, refl, sym, ap, subst}
+use Rattle.std.proofs.Common.{◌≡◌, ◌++◌, ◌∷◌, [], ℕ, Bool, List, Option, Some, None, IfSome, refl, sym, ap, subst}
 use Rattle.pnp_labels.specs.Texts.{Text}
 use Rattle.pnp_model.specs.Records.{Driver}
 use Rattle.pnp_cli.specs.Infs.{infs_in, SomeRose}
@@ -17,12 +17,12 @@ module _ (s : Settings) (name : Text) (script : s.script ≡ Some name) (check :
       (subst (λ (o : Option Text). IfSome contents (λ told. status_for told s.infs o ≡ Some status)) (sym script) h)
 
   -- whatever is said of their view
-  pub view_for : (rows rack : List Driver) (Says : (Text → Type 0) → Type 0) → rows ≡ rack → IfSome contents (λ told. Says (IsViewBy rows s.budget (infs_in told s.infs) (told name)))
-      → IfSome contents (λ told. Says (IsView rack told s))
-  view_for rows rack Says same h =
-      subst (λ (o : Option Text). IfSome contents (λ told. Says (IsViewFor rack s.budget told s.infs (plain_script s.script o)))) (sym check)
-      (subst (λ (o : Option Text). IfSome contents (λ told. Says (IsViewFor rack s.budget told s.infs o))) (sym script)
-      (subst (λ (x : List Driver). IfSome contents (λ told. Says (IsViewBy x s.budget (infs_in told s.infs) (told name)))) same h))
+  pub view_for : (steps : Bool) (rows rack : List Driver) (Says : (Text → Type 0) → Type 0) → rows ≡ rack → IfSome contents (λ told. Says (IsViewBy steps rows s.budget (infs_in told s.infs) (told name)))
+      → IfSome contents (λ told. Says (IsView steps rack told s))
+  view_for steps rows rack Says same h =
+      subst (λ (o : Option Text). IfSome contents (λ told. Says (IsViewFor steps rack s.budget told s.infs (plain_script s.script o)))) (sym check)
+      (subst (λ (o : Option Text). IfSome contents (λ told. Says (IsViewFor steps rack s.budget told s.infs o))) (sym script)
+      (subst (λ (x : List Driver). IfSome contents (λ told. Says (IsViewBy steps x s.budget (infs_in told s.infs) (told name)))) same h))
 
   pub large_for : IfSome contents (λ told. IsTooLarge (infs_in told s.infs) (told name)) → IfSome contents (λ told. IsTooLargeFor told s)
   large_for h = subst (λ (o : Option Text). IfSome contents (λ told. IfSome o (λ name. IsTooLarge (infs_in told s.infs) (told name)))) (sym script) h
@@ -31,3 +31,7 @@ module _ (s : Settings) (name : Text) (script : s.script ≡ Some name) (check :
   rose_for old new h =
       subst (λ (o : Option Text). SomeRose old new (names_by s.infs o s.script)) (sym check)
       (subst (λ (o : Option Text). SomeRose old new (names_of s.infs o)) (sym script) h)
+
+-- whatever is said of words with an option and without
+pub as_asked : (words plain : List Text) (steps asked : Bool) (Says : Bool → List Text → Type 0) → words ≡ plain → steps ≡ asked → Says steps words → Says asked plain
+as_asked words plain steps asked Says same is h = subst (λ (b : Bool). Says b plain) is (subst (Says steps) same h)

@@ -13,12 +13,14 @@ use Rattle.device_ids.specs.Cuts.{parts}
 use Rattle.script_reader.specs.Script.{Trace, trace, ends, onward, at_end, of_lines, Meaning, nothing, means, bad, last_line, whole_line}
 use Rattle.pnp_cli.specs.Checks.{file_in}
 use Rattle.pnp_cli.specs.Contents.{events_of, decided_of, answer_of}
-use Rattle.pnp_cli.specs.Infs.{infs_in, limit}
+use Rattle.pnp_cli.specs.Infs.{infs_in, limit, refusal_line}
 use Rattle.pnp_cli.specs.Runs.{machine}
 use Rattle.pnp_cli.specs.declared.infs.InfsError.{InfsError}
 use Rattle.pnp_cli.specs.declared.infs.InfsError.TheVariants.{TooLarge, Refused}
 use Rattle.pnp_cli.specs.declared.status.Status.{Status}
 use Rattle.view_page.specs.Pages.{IsPage}
+use Rattle.view_page.specs.declared.words.Part.{Part}
+use Rattle.view_page.specs.declared.words.Tag.{Tag}
 use Rattle.view_cli.specs.Viewed.{IsViewing}
 use Rattle.view_cli.specs.Answers.{IsViewed, IsTooLarge, is_told}
 use Rattle.view_cli.specs.declared.viewed.Viewed.{Viewed}
@@ -46,46 +48,46 @@ told_lines passed [] = refl
 told_lines passed (rest ∷ []) = told_end passed rest
 told_lines passed (line ∷ next ∷ lines) = told_onward (passed + 1) (whole_line line) (of_lines true (passed + 1) (next ∷ lines)) (told_lines (passed + 1) (next ∷ lines))
 
-pub viewing_told : {settings : Settings} {f : Front} (script : List ℕ) (text : Text) (status : Status) → IsViewing settings f (events_of script) text status → is_told status ≡ true
+pub viewing_told : {steps : Bool} {settings : Settings} {f : Front} (script : List ℕ) (text : Text) (status : Status) → IsViewing steps settings f (events_of script) text status → is_told status ≡ true
 viewing_told script text status h = subst (λ (x : Status). is_told x ≡ true) h.answer (told_lines 0 (parts 0x0A script))
 
 -- What the files come to -------------------------------------------------------------------
 
 -- the script is viewed
-pub viewed_script : (contents : Option (Text → Option (List ℕ))) (name : Text) (infs : List Inf) (script : List ℕ) (rack : List Driver) (budget : ℕ) (text : Text) (status : Status) → Holds contents name script → length script ≤ 16777216
-    → IsViewing (machine infs budget) (opening_front (opening rack)) (events_of script) text status
-    → IfSome contents (λ told. IsViewed rack budget (Ok infs) (told name) text status)
-viewed_script None name infs script rack budget text status holds few h = tt
-viewed_script (Some told) name infs script rack budget text status holds few h =
-    subst (λ (s : Option (List ℕ)). IsViewed rack budget (Ok infs) s text status) (sym holds)
+pub viewed_script : (steps : Bool) (contents : Option (Text → Option (List ℕ))) (name : Text) (infs : List Inf) (script : List ℕ) (rack : List Driver) (budget : ℕ) (text : Text) (status : Status) → Holds contents name script → length script ≤ 16777216
+    → IsViewing steps (machine infs budget) (opening_front (opening rack)) (events_of script) text status
+    → IfSome contents (λ told. IsViewed steps rack budget (Ok infs) (told name) text status)
+viewed_script steps None name infs script rack budget text status holds few h = tt
+viewed_script steps (Some told) name infs script rack budget text status holds few h =
+    subst (λ (s : Option (List ℕ)). IsViewed steps rack budget (Ok infs) s text status) (sym holds)
     (record {
       view = h.view;
       answer = ap (λ (t : Trace). Some (answer_of t)) (decided_whole script few) ∙ ap Some h.answer;
     })
 
 -- all INFs were taken before
-viewed_taken : (contents : Option (Text → Option (List ℕ))) (names : List Text) (name : Text) (infs : List Inf) (rack : List Driver) (budget : ℕ) (text : Text) (status : Status)
-    → IfSome contents (λ told. infs_in told names ≡ Ok infs) → IfSome contents (λ told. IsViewed rack budget (Ok infs) (told name) text status)
-    → IfSome contents (λ told. IsViewed rack budget (infs_in told names) (told name) text status)
-viewed_taken None names name infs rack budget text status taken h = tt
-viewed_taken (Some told) names name infs rack budget text status taken h =
-    subst (λ (r : Result (List Inf) InfsError). IsViewed rack budget r (told name) text status) (sym taken) h
+viewed_taken : (steps : Bool) (contents : Option (Text → Option (List ℕ))) (names : List Text) (name : Text) (infs : List Inf) (rack : List Driver) (budget : ℕ) (text : Text) (status : Status)
+    → IfSome contents (λ told. infs_in told names ≡ Ok infs) → IfSome contents (λ told. IsViewed steps rack budget (Ok infs) (told name) text status)
+    → IfSome contents (λ told. IsViewed steps rack budget (infs_in told names) (told name) text status)
+viewed_taken steps None names name infs rack budget text status taken h = tt
+viewed_taken steps (Some told) names name infs rack budget text status taken h =
+    subst (λ (r : Result (List Inf) InfsError). IsViewed steps rack budget r (told name) text status) (sym taken) h
 
-pub named_taken : {E : Type 0} (r : Result Viewed E) (contents later : Option (Text → Option (List ℕ))) (names : List Text) (name : Text) (infs : List Inf) (rack : List Driver) (budget : ℕ) → later ≡ contents
-    → IfSome contents (λ told. infs_in told names ≡ Ok infs) → IfOk r (λ e. IfSome later (λ told. IsViewed rack budget (Ok infs) (told name) e.text.items e.status))
-    → IfOk r (λ e. IfSome contents (λ told. IsViewed rack budget (infs_in told names) (told name) e.text.items e.status))
-named_taken (Err error) contents later names name infs rack budget same taken h = tt
-named_taken (Ok e) contents later names name infs rack budget same taken h =
-    viewed_taken contents names name infs rack budget e.text.items e.status taken
-    (subst (λ (o : Option (Text → Option (List ℕ))). IfSome o (λ told. IsViewed rack budget (Ok infs) (told name) e.text.items e.status)) same h)
+pub named_taken : {E : Type 0} (steps : Bool) (r : Result Viewed E) (contents later : Option (Text → Option (List ℕ))) (names : List Text) (name : Text) (infs : List Inf) (rack : List Driver) (budget : ℕ) → later ≡ contents
+    → IfSome contents (λ told. infs_in told names ≡ Ok infs) → IfOk r (λ e. IfSome later (λ told. IsViewed steps rack budget (Ok infs) (told name) e.text.items e.status))
+    → IfOk r (λ e. IfSome contents (λ told. IsViewed steps rack budget (infs_in told names) (told name) e.text.items e.status))
+named_taken steps (Err error) contents later names name infs rack budget same taken h = tt
+named_taken steps (Ok e) contents later names name infs rack budget same taken h =
+    viewed_taken steps contents names name infs rack budget e.text.items e.status taken
+    (subst (λ (o : Option (Text → Option (List ℕ))). IfSome o (λ told. IsViewed steps rack budget (Ok infs) (told name) e.text.items e.status)) same h)
 
 -- an INF is refused
-pub viewed_refused : (contents : Option (Text → Option (List ℕ))) (names : List Text) (name : Text) (number : ℕ) (error : InfError) (rack : List Driver) (budget : ℕ) (text : Text) (status : Status)
-    → IfSome contents (λ told. infs_in told names ≡ Err (Refused number error)) → IsPage [] text → status ≡ Status.BadInf
-    → IfSome contents (λ told. IsViewed rack budget (infs_in told names) (told name) text status)
-viewed_refused None names name number error rack budget text status refused page is = tt
-viewed_refused (Some told) names name number error rack budget text status refused page is =
-    subst (λ (r : Result (List Inf) InfsError). IsViewed rack budget r (told name) text status) (sym refused)
+pub viewed_refused : (steps : Bool) (contents : Option (Text → Option (List ℕ))) (names : List Text) (name : Text) (number : ℕ) (error : InfError) (rack : List Driver) (budget : ℕ) (text : Text) (status : Status)
+    → IfSome contents (λ told. infs_in told names ≡ Err (Refused number error)) → IsPage ((Part.Words Tag.P, refusal_line number error) ∷ []) text → status ≡ Status.BadInf
+    → IfSome contents (λ told. IsViewed steps rack budget (infs_in told names) (told name) text status)
+viewed_refused steps None names name number error rack budget text status refused page is = tt
+viewed_refused steps (Some told) names name number error rack budget text status refused page is =
+    subst (λ (r : Result (List Inf) InfsError). IsViewed steps rack budget r (told name) text status) (sym refused)
     (record { view = page; answer = ap Some (sym is) })
 
 -- a file is too large

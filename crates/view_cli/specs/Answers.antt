@@ -1,5 +1,6 @@
 -- What is written and answered, by the words and by the contents of the files as they are told.
-use Rattle.std.specs.Prelude.{◌≡◌, ◌⊎◌, ℕ, Bool, true, false, List, Option, Some, None, IfSome, Result, Ok, Err, []}
+use Rattle.std.specs.Prelude.{◌≡◌, ◌⊎◌, ℕ, Bool, true, false, List, [], ◌∷◌, Option, Some, None, IfSome, Result, Ok, Err, codes, if◌then◌else◌}
+use Rattle.std.specs.Str.{bytes_eq}
 use Rattle.pnp_io.specs.Outside.{Appends, AppendsFront}
 use Rattle.pnp_io.specs.declared.whole.ReadError.{ReadError}
 use Rattle.pnp_io.specs.declared.whole.ReadError.TheVariants as reads
@@ -9,9 +10,11 @@ use Rattle.pnp_model.specs.Records.{Driver}
 use Rattle.pnp_model.specs.Runs.{opening}
 use Rattle.notify_front.specs.Fronts.{Front, opening_front}
 use Rattle.view_page.specs.Pages.{IsPage}
+use Rattle.view_page.specs.declared.words.Part.{Part}
+use Rattle.view_page.specs.declared.words.Tag.{Tag}
 use Rattle.inf_reader.specs.declared.parts.Inf.{Inf}
 use Rattle.pnp_cli.specs.Checks.{file_in}
-use Rattle.pnp_cli.specs.Infs.{infs_in}
+use Rattle.pnp_cli.specs.Infs.{infs_in, refusal_line}
 use Rattle.pnp_cli.specs.Contents.{events_of}
 use Rattle.pnp_cli.specs.Runs.{machine, status_by}
 use Rattle.pnp_cli.specs.declared.infs.InfsError.{InfsError}
@@ -20,6 +23,24 @@ use Rattle.pnp_cli.specs.declared.parts.Settings.{Settings}
 use Rattle.pnp_cli.specs.declared.status.Status.{Status}
 use Rattle.view_cli.specs.Viewed.{IsRunView}
 use Rattle.view_cli.specs.declared.viewed.Viewed.{Viewed}
+
+-- the word of the option for stepping
+abbrev pub is_step : Text → Bool
+is_step word = bytes_eq word (codes "--step")
+
+abbrev pub opens_with_step : List Text → Bool
+opens_with_step [] = false
+opens_with_step (word ∷ words) = is_step word
+
+-- the option stands first behind the program's name
+abbrev pub asks_to_step : List Text → Bool
+asks_to_step [] = false
+asks_to_step (program ∷ words) = opens_with_step words
+
+-- The words as those of `run`: without that option, which then takes the place of the program's name, as that means nothing.
+abbrev pub plain_words : List Text → List Text
+plain_words [] = []
+plain_words (program ∷ words) = if opens_with_step words then words else program ∷ words
 
 -- the script that settings name, where no trace is to be checked
 abbrev pub plain_script : Option Text → Option Text → Option Text
@@ -42,25 +63,25 @@ IsTooLarge (Err error) script = error ≡ TooLarge
 abbrev pub IsTooLargeFor : (Text → Option (List ℕ)) → Settings → Type 0
 IsTooLargeFor told s = IfSome s.script (λ name. IsTooLarge (infs_in told s.infs) (told name))
 
--- what is written for a script from a front on: a page, and nothing where it is not there
-abbrev pub IsPageFor : machines.Settings → Front → Option (List ℕ) → Text → Type 0
-IsPageFor settings f None text = text ≡ []
-IsPageFor settings f (Some script) text = IsRunView settings f (events_of script) text
+-- what is written for a script from a front on, with the states behind its rows or without: a page, and nothing where it is not there
+abbrev pub IsPageFor : Bool → machines.Settings → Front → Option (List ℕ) → Text → Type 0
+IsPageFor steps settings f None text = text ≡ []
+IsPageFor steps settings f (Some script) text = IsRunView steps settings f (events_of script) text
 
--- the same, by what the INFs come to: a page without arrows, where one is refused
-abbrev pub IsViewBy : List Driver → ℕ → Result (List Inf) InfsError → Option (List ℕ) → Text → Type 0
-IsViewBy rack budget (Ok infs) script text = IsPageFor (machine infs budget) (opening_front (opening rack)) script text
-IsViewBy rack budget (Err (Refused number error)) script text = IsPage [] text
-IsViewBy rack budget (Err error) script text = text ≡ []
+-- the same, by what the INFs come to: where one is refused, a page with the line that tells it, and without arrows
+abbrev pub IsViewBy : Bool → List Driver → ℕ → Result (List Inf) InfsError → Option (List ℕ) → Text → Type 0
+IsViewBy steps rack budget (Ok infs) script text = IsPageFor steps (machine infs budget) (opening_front (opening rack)) script text
+IsViewBy steps rack budget (Err (Refused number error)) script text = IsPage ((Part.Words Tag.P, refusal_line number error) ∷ []) text
+IsViewBy steps rack budget (Err error) script text = text ≡ []
 
 -- the same for settings with this script
-abbrev pub IsViewFor : List Driver → ℕ → (Text → Option (List ℕ)) → List Text → Option Text → Text → Type 0
-IsViewFor rack budget told infs None text = text ≡ []
-IsViewFor rack budget told infs (Some name) text = IsViewBy rack budget (infs_in told infs) (told name) text
+abbrev pub IsViewFor : Bool → List Driver → ℕ → (Text → Option (List ℕ)) → List Text → Option Text → Text → Type 0
+IsViewFor steps rack budget told infs None text = text ≡ []
+IsViewFor steps rack budget told infs (Some name) text = IsViewBy steps rack budget (infs_in told infs) (told name) text
 
 -- The view for settings, by the contents of the files and the kinds and books of a rack: of the run whose output `IsOutput` says.
-abbrev pub IsView : List Driver → (Text → Option (List ℕ)) → Settings → Text → Type 0
-IsView rack told s text = IsViewFor rack s.budget told s.infs (script_named s) text
+abbrev pub IsView : Bool → List Driver → (Text → Option (List ℕ)) → Settings → Text → Type 0
+IsView steps rack told s text = IsViewFor steps rack s.budget told s.infs (script_named s) text
 
 -- answers after which the whole text was written, and which come only where the contents decide them
 abbrev pub is_told : Status → Bool
@@ -70,8 +91,8 @@ is_told Status.BadInf = true
 is_told _ = false
 
 -- the view of a run, and its answer, by what the INFs come to
-pub record IsViewed (rack : List Driver) (budget : ℕ) (infs : Result (List Inf) InfsError) (script : Option (List ℕ)) (text : Text) (status : Status) : Type 0 where
-  pub view : IsViewBy rack budget infs script text
+pub record IsViewed (steps : Bool) (rack : List Driver) (budget : ℕ) (infs : Result (List Inf) InfsError) (script : Option (List ℕ)) (text : Text) (status : Status) : Type 0 where
+  pub view : IsViewBy steps rack budget infs script text
   pub answer : status_by infs script ≡ Some status
 
 abbrev pub status_of_error : ReadError → Status

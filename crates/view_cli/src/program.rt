@@ -7,7 +7,7 @@ ghost use Rattle.pnp_cli.specs.Infs.{infs_in, limit, SomeRose};
 ghost use Rattle.pnp_cli.specs.Limits.{IsWithin};
 ghost use Rattle.pnp_cli.specs.Runs.{named, status_by, Decides, Wrote, Given, Untouched};
 ghost use Rattle.pnp_cli.specs.declared.status.Status.{Status};
-ghost use Rattle.view_cli.specs.Answers.{IsView, IsViewBy, IsViewed, IsTooLarge, IsTooLargeFor, WroteOut, WroteSome, script_of, script_named, is_told};
+ghost use Rattle.view_cli.specs.Answers.{IsView, IsViewBy, IsViewed, IsTooLarge, IsTooLargeFor, WroteOut, WroteSome, asks_to_step, is_step, is_told, opens_with_step, plain_words, script_of, script_named};
 
 use crate::refusal::page_refusal;
 use crate::viewed::{Viewed, page_of};
@@ -24,18 +24,19 @@ fn page_script<R: Drivers, F: Files>(
     name: &[u8],
     infs: Vec<Inf>,
     budget: u64,
+    steps: bool,
     rack: R,
     files: &mut F,
 ) -> Result<Viewed, ReadError>
     requires infs { length infs.items ≤ 64 }
     requires budget { budget ≤ 1000000 }
-    ensures gives { IfOk result (λ e. IfSome (F.contents files.old) (λ told. IsViewed (R.rows rack) budget (Ok infs.items) (told name.now) e.text.items e.status)) }
+    ensures gives { IfOk result (λ e. IfSome (F.contents files.old) (λ told. IsViewed steps (R.rows rack) budget (Ok infs.items) (told name.now) e.text.items e.status)) }
     ensures told { IfOk result (λ e. is_told e.status ≡ true) }
     ensures too_large { IsErrOf result TooLarge → HoldsMore (F.contents files.old) name.now limit }
     ensures failed { IsErrOf result ReadFault → Rose (F.faults files.old name.now) (F.faults files.new name.now) }
 {
     let script = read_all(alloc, files, name, LIMIT)?;
-    let viewed = page_of(alloc, name, &script, infs, budget, rack)?;
+    let viewed = page_of(alloc, name, steps, &script, infs, budget, rack)?;
     Ok(viewed)
 }
 
@@ -45,18 +46,19 @@ fn page_named<R: Drivers, F: Files>(
     name: &[u8],
     infs: &TextList,
     budget: u64,
+    steps: bool,
     rack: R,
     files: &mut F,
 ) -> Result<Viewed, ReadError>
     requires infs { length infs.now ≤ 64 }
     requires budget { budget ≤ 1000000 }
-    ensures gives { IfOk result (λ e. IfSome (F.contents files.old) (λ told. IsViewed (R.rows rack) budget (infs_in told infs.now) (told name.now) e.text.items e.status)) }
+    ensures gives { IfOk result (λ e. IfSome (F.contents files.old) (λ told. IsViewed steps (R.rows rack) budget (infs_in told infs.now) (told name.now) e.text.items e.status)) }
     ensures told { IfOk result (λ e. is_told e.status ≡ true) }
     ensures too_large { IsErrOf result TooLarge → IfSome (F.contents files.old) (λ told. IsTooLarge (infs_in told infs.now) (told name.now)) }
     ensures failed { IsErrOf result ReadFault → SomeRose (F.faults files.old) (F.faults files.new) (infs.now ++ name.now ∷ []) }
 {
     match read_infs(alloc, files, infs) {
-        Ok(taken) => page_script(alloc, name, taken, budget, rack, files),
+        Ok(taken) => page_script(alloc, name, taken, budget, steps, rack, files),
         Err(InfsError::Refused(number, error)) => {
             let viewed = page_refusal(alloc, name, number, error, infs)?;
             Ok(viewed)
@@ -89,6 +91,7 @@ fn view_named<R: Drivers, F: Files, K: Sink>(
     name: &[u8],
     infs: &TextList,
     budget: u64,
+    steps: bool,
     rack: R,
     files: &mut F,
     sink: &mut K,
@@ -97,13 +100,13 @@ fn view_named<R: Drivers, F: Files, K: Sink>(
     requires budget { budget ≤ 1000000 }
     ensures words { result ≡ Status.BadWords → ⊥ }
     ensures decided { is_told result ≡ true → IfSome (F.contents files.old) (λ told. status_by (infs_in told infs.now) (told name.now) ≡ Some result) }
-    ensures whole { is_told result ≡ true → IfSome (F.contents files.old) (λ told. Wrote ((IsViewBy (R.rows rack) budget (infs_in told infs.now) (told name.now))) (K.taken sink.old) (K.taken sink.new)) }
-    ensures front { IfSome (F.contents files.old) (λ told. WroteSome ((IsViewBy (R.rows rack) budget (infs_in told infs.now) (told name.now))) (K.taken sink.old) (K.taken sink.new)) }
+    ensures whole { is_told result ≡ true → IfSome (F.contents files.old) (λ told. Wrote ((IsViewBy steps (R.rows rack) budget (infs_in told infs.now) (told name.now))) (K.taken sink.old) (K.taken sink.new)) }
+    ensures front { IfSome (F.contents files.old) (λ told. WroteSome ((IsViewBy steps (R.rows rack) budget (infs_in told infs.now) (told name.now))) (K.taken sink.old) (K.taken sink.new)) }
     ensures read_fault { result ≡ Status.ReadFault → SomeRose (F.faults files.old) (F.faults files.new) (infs.now ++ name.now ∷ []) }
     ensures write_fault { result ≡ Status.WriteFault → Rose (K.faults sink.old) (K.faults sink.new) }
     ensures too_large { result ≡ Status.TooLarge → IfSome (F.contents files.old) (λ told. IsTooLarge (infs_in told infs.now) (told name.now)) }
 {
-    let viewed = page_named(alloc, name, infs, budget, rack, files);
+    let viewed = page_named(alloc, name, infs, budget, steps, rack, files);
     write_out(viewed, sink)
 }
 
@@ -112,6 +115,7 @@ fn view_drivers<D: Driver, F: Files, K: Sink>(
     alloc: Global,
     settings: &Settings,
     name: &[u8],
+    steps: bool,
     drivers: Vec<D>,
     files: &mut F,
     sink: &mut K,
@@ -122,8 +126,8 @@ fn view_drivers<D: Driver, F: Files, K: Sink>(
     requires check { settings.now.check ≡ None }
     ensures words { result ≡ Status.BadWords → ⊥ }
     ensures decided { is_told result ≡ true → IfSome (F.contents files.old) (λ told. Decides (map (λ d. unnamed (D.kind_of d) (D.book d)) drivers.items) told settings.now result) }
-    ensures whole { is_told result ≡ true → IfSome (F.contents files.old) (λ told. Wrote ((IsView (map (λ d. unnamed (D.kind_of d) (D.book d)) drivers.items) told settings.now)) (K.taken sink.old) (K.taken sink.new)) }
-    ensures front { IfSome (F.contents files.old) (λ told. WroteSome ((IsView (map (λ d. unnamed (D.kind_of d) (D.book d)) drivers.items) told settings.now)) (K.taken sink.old) (K.taken sink.new)) }
+    ensures whole { is_told result ≡ true → IfSome (F.contents files.old) (λ told. Wrote ((IsView steps (map (λ d. unnamed (D.kind_of d) (D.book d)) drivers.items) told settings.now)) (K.taken sink.old) (K.taken sink.new)) }
+    ensures front { IfSome (F.contents files.old) (λ told. WroteSome ((IsView steps (map (λ d. unnamed (D.kind_of d) (D.book d)) drivers.items) told settings.now)) (K.taken sink.old) (K.taken sink.new)) }
     ensures read_fault { result ≡ Status.ReadFault → SomeRose (F.faults files.old) (F.faults files.new) (named settings.now) }
     ensures write_fault { result ≡ Status.WriteFault → Rose (K.faults sink.old) (K.faults sink.new) }
     ensures too_large { result ≡ Status.TooLarge → IfSome (F.contents files.old) (λ told. IsTooLargeFor told settings.now) }
@@ -134,6 +138,7 @@ fn view_drivers<D: Driver, F: Files, K: Sink>(
             name,
             &settings.infs,
             settings.budget,
+            steps,
             rack,
             files,
             sink,
@@ -146,6 +151,7 @@ fn view_drivers<D: Driver, F: Files, K: Sink>(
 fn view_settings<D: Driver, F: Files, K: Sink>(
     alloc: Global,
     settings: &Settings,
+    steps: bool,
     drivers: Vec<D>,
     files: &mut F,
     sink: &mut K,
@@ -156,8 +162,8 @@ fn view_settings<D: Driver, F: Files, K: Sink>(
     ensures refused { script_named settings.now ≡ None → result ≡ Status.BadWords }
     ensures untouched { script_named settings.now ≡ None → Untouched F.contents F.faults K.taken K.faults files.old files.new sink.old sink.new }
     ensures decided { is_told result ≡ true → IfSome (F.contents files.old) (λ told. Decides (map (λ d. unnamed (D.kind_of d) (D.book d)) drivers.items) told settings.now result) }
-    ensures whole { is_told result ≡ true → IfSome (F.contents files.old) (λ told. Wrote ((IsView (map (λ d. unnamed (D.kind_of d) (D.book d)) drivers.items) told settings.now)) (K.taken sink.old) (K.taken sink.new)) }
-    ensures front { IfSome (F.contents files.old) (λ told. WroteSome ((IsView (map (λ d. unnamed (D.kind_of d) (D.book d)) drivers.items) told settings.now)) (K.taken sink.old) (K.taken sink.new)) }
+    ensures whole { is_told result ≡ true → IfSome (F.contents files.old) (λ told. Wrote ((IsView steps (map (λ d. unnamed (D.kind_of d) (D.book d)) drivers.items) told settings.now)) (K.taken sink.old) (K.taken sink.new)) }
+    ensures front { IfSome (F.contents files.old) (λ told. WroteSome ((IsView steps (map (λ d. unnamed (D.kind_of d) (D.book d)) drivers.items) told settings.now)) (K.taken sink.old) (K.taken sink.new)) }
     ensures read_fault { result ≡ Status.ReadFault → SomeRose (F.faults files.old) (F.faults files.new) (named settings.now) }
     ensures write_fault { result ≡ Status.WriteFault → Rose (K.faults sink.old) (K.faults sink.new) }
     ensures too_large { result ≡ Status.TooLarge → IfSome (F.contents files.old) (λ told. IsTooLargeFor told settings.now) }
@@ -165,20 +171,58 @@ fn view_settings<D: Driver, F: Files, K: Sink>(
     match &settings.check {
         Some(_) => Status::BadWords,
         None => match &settings.script {
-            Some(name) => view_drivers(alloc, settings, name.bytes(), drivers, files, sink),
+            Some(name) => view_drivers(alloc, settings, name.bytes(), steps, drivers, files, sink),
             None => Status::BadWords,
         },
     }
 }
 
-/// Reads the words `[--budget N] SCRIPT [INF ..]`, the INFs and the script that they name, runs it over these drivers, and writes one
-/// page, which has an arrow for each ask of the run, in order, and no other; where an INF is refused, a page without arrows that says so.
-/// Words that name no script, and those with `--check`, are refused. All is read before anything is written. The condition is that there
-/// are fewer than 2^32 drivers. Each status comes as its clauses say. It always returns. Cost: that of `run`, and that of the page. This
-/// project's own.
-pub fn view<D: Driver, F: Files, K: Sink>(
+/// Whether a word is the option for stepping.
+fn is_step(word: &str) -> bool
+    ensures { result ≡ is_step word.now }
+{
+    word.as_bytes() == b"--step".as_slice()
+}
+
+/// Whether the option for stepping stands first.
+fn opens_with_step(words: &[String]) -> bool
+    ensures { result ≡ opens_with_step (texts words.now) }
+{
+    match words {
+        [] => false,
+        [word, ..] => is_step(word.as_str()),
+    }
+}
+
+/// Whether the page is to be one that is stepped through: the option stands first behind the program's name.
+fn asks_to_step(words: &[String]) -> bool
+    ensures { result ≡ asks_to_step (texts words.now) }
+{
+    match words {
+        [] => false,
+        [_, behind @ ..] => opens_with_step(behind),
+    }
+}
+
+/// The words as those of `run`: without the option for stepping, which then takes the place of the program's name.
+fn plain_words(words: &[String]) -> &[String]
+    ensures { texts result.now ≡ plain_words (texts words.now) }
+{
+    match words {
+        [] => words,
+        [_, behind @ ..] => if opens_with_step(behind) {
+            behind
+        } else {
+            words
+        },
+    }
+}
+
+/// The same as `view` of words without the option for stepping.
+fn view_words<D: Driver, F: Files, K: Sink>(
     alloc: Global,
     words: &[String],
+    steps: bool,
     drivers: Vec<D>,
     files: &mut F,
     sink: &mut K,
@@ -188,8 +232,8 @@ pub fn view<D: Driver, F: Files, K: Sink>(
     ensures refused { script_of (settings_of (texts words.now)) ≡ None → (result ≡ Status.BadWords) ⊎ (result ≡ Status.WantOfMemory) }
     ensures untouched { script_of (settings_of (texts words.now)) ≡ None → Untouched F.contents F.faults K.taken K.faults files.old files.new sink.old sink.new }
     ensures decided { is_told result ≡ true → Given (texts words.now) (F.contents files.old) (λ s told. Decides (map (λ d. unnamed (D.kind_of d) (D.book d)) drivers.items) told s result) }
-    ensures whole { is_told result ≡ true → Given (texts words.now) (F.contents files.old) (λ s told. Wrote ((IsView (map (λ d. unnamed (D.kind_of d) (D.book d)) drivers.items) told s)) (K.taken sink.old) (K.taken sink.new)) }
-    ensures front { Given (texts words.now) (F.contents files.old) (λ s told. WroteSome ((IsView (map (λ d. unnamed (D.kind_of d) (D.book d)) drivers.items) told s)) (K.taken sink.old) (K.taken sink.new)) }
+    ensures whole { is_told result ≡ true → Given (texts words.now) (F.contents files.old) (λ s told. Wrote ((IsView steps (map (λ d. unnamed (D.kind_of d) (D.book d)) drivers.items) told s)) (K.taken sink.old) (K.taken sink.new)) }
+    ensures front { Given (texts words.now) (F.contents files.old) (λ s told. WroteSome ((IsView steps (map (λ d. unnamed (D.kind_of d) (D.book d)) drivers.items) told s)) (K.taken sink.old) (K.taken sink.new)) }
     ensures read_fault { result ≡ Status.ReadFault → IfSome (settings_of (texts words.now)) (λ s. SomeRose (F.faults files.old) (F.faults files.new) (named s)) }
     ensures write_fault { result ≡ Status.WriteFault → Rose (K.faults sink.old) (K.faults sink.new) }
     ensures too_large { result ≡ Status.TooLarge → Given (texts words.now) (F.contents files.old) (λ s told. IsTooLargeFor told s) }
@@ -197,6 +241,33 @@ pub fn view<D: Driver, F: Files, K: Sink>(
     match settings(alloc, words) {
         Err(WordsError::BadWords) => Status::BadWords,
         Err(WordsError::WantOfMemory) => Status::WantOfMemory,
-        Ok(settings) => view_settings(alloc, &settings, drivers, files, sink),
+        Ok(settings) => view_settings(alloc, &settings, steps, drivers, files, sink),
     }
+}
+
+/// Reads the words `[--step] [--budget N] SCRIPT [INF ..]`, the INFs and the script that they name, runs it over these drivers, and writes
+/// one page: it has the line of each label, in order, with an arrow for each ask and no other, the bad line, and the end of the output, and
+/// with `--step` the states behind its rows; where an INF is refused, the line that tells it. Words that name no script, and those with
+/// `--check`, are refused. All is read before anything is written. The condition is that there are fewer than 2^32 drivers. Each status
+/// comes as its clauses say. It always returns. Cost: that of `run`, and that of the page. This project's own.
+pub fn view<D: Driver, F: Files, K: Sink>(
+    alloc: Global,
+    words: &[String],
+    drivers: Vec<D>,
+    files: &mut F,
+    sink: &mut K,
+) -> Status
+    requires { length drivers.items < 2 ^ 32 }
+    ensures bad_words { result ≡ Status.BadWords → script_of (settings_of (plain_words (texts words.now))) ≡ None }
+    ensures refused { script_of (settings_of (plain_words (texts words.now))) ≡ None → (result ≡ Status.BadWords) ⊎ (result ≡ Status.WantOfMemory) }
+    ensures untouched { script_of (settings_of (plain_words (texts words.now))) ≡ None → Untouched F.contents F.faults K.taken K.faults files.old files.new sink.old sink.new }
+    ensures decided { is_told result ≡ true → Given (plain_words (texts words.now)) (F.contents files.old) (λ s told. Decides (map (λ d. unnamed (D.kind_of d) (D.book d)) drivers.items) told s result) }
+    ensures whole { is_told result ≡ true → Given (plain_words (texts words.now)) (F.contents files.old) (λ s told. Wrote ((IsView (asks_to_step (texts words.now)) (map (λ d. unnamed (D.kind_of d) (D.book d)) drivers.items) told s)) (K.taken sink.old) (K.taken sink.new)) }
+    ensures front { Given (plain_words (texts words.now)) (F.contents files.old) (λ s told. WroteSome ((IsView (asks_to_step (texts words.now)) (map (λ d. unnamed (D.kind_of d) (D.book d)) drivers.items) told s)) (K.taken sink.old) (K.taken sink.new)) }
+    ensures read_fault { result ≡ Status.ReadFault → IfSome (settings_of (plain_words (texts words.now))) (λ s. SomeRose (F.faults files.old) (F.faults files.new) (named s)) }
+    ensures write_fault { result ≡ Status.WriteFault → Rose (K.faults sink.old) (K.faults sink.new) }
+    ensures too_large { result ≡ Status.TooLarge → Given (plain_words (texts words.now)) (F.contents files.old) (λ s told. IsTooLargeFor told s) }
+{
+    let steps = asks_to_step(words);
+    view_words(alloc, plain_words(words), steps, drivers, files, sink)
 }

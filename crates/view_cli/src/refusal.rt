@@ -1,6 +1,9 @@
 //! The page for an INF that is refused.
-ghost use Rattle.std.specs.Prelude.{◌≡◌, [], IfOk, OnOk};
+ghost use Rattle.std.specs.Prelude.{◌≡◌, ◌++◌, ◌∷◌, [], IfOk, OnOk};
 ghost use Rattle.view_page.specs.Pages.{IsPage};
+ghost use Rattle.view_page.specs.declared.words.Part.{Part};
+ghost use Rattle.view_page.specs.declared.words.Tag.{Tag as Tags};
+ghost use Rattle.pnp_cli.specs.Infs.{refusal_line};
 ghost use Rattle.pnp_cli.specs.declared.status.Status.{Status};
 
 use crate::viewed::{Viewed, finished};
@@ -22,7 +25,7 @@ fn draw_name(number: u64, names: &TextList, page: &mut Page) -> Result<(), WantO
     Ok(())
 }
 
-/// Says in words that an INF is refused.
+/// Says that an INF is refused.
 fn draw_refusal(
     alloc: Global,
     title: &[u8],
@@ -33,16 +36,16 @@ fn draw_refusal(
 ) -> Result<(), WantOfMemory>
     requires { page.old.elements ≡ [] }
     ensures elements { OnOk result (page.new.elements ≡ []) }
-    ensures marks { OnOk result (page.new.marks ≡ page.old.marks) }
+    ensures marks { OnOk result (page.new.marks ≡ page.old.marks ++ (Part.Words Tags.P, refusal_line number error) ∷ []) }
 {
     let line = refusal_line(alloc, number, error)?;
     begin_plain(page, title)?;
     draw_name(number, names, page)?;
-    page.element(Tag::P, &[(Attribute::Class, b"bad")], &line)?;
+    page.marked(Tag::P, &[(Attribute::Class, b"bad")], &line)?;
     page.close()
 }
 
-/// The page for a refused INF, and the answer. It has no arrow.
+/// The page for a refused INF, and the answer. It has the line that tells of it, and no arrow.
 pub fn page_refusal(
     alloc: Global,
     title: &[u8],
@@ -50,7 +53,7 @@ pub fn page_refusal(
     error: InfError,
     names: &TextList,
 ) -> Result<Viewed, WantOfMemory>
-    ensures page { IfOk result (λ v. IsPage [] v.text.items) }
+    ensures page { IfOk result (λ v. IsPage ((Part.Words Tags.P, refusal_line number error) ∷ []) v.text.items) }
     ensures answer { IfOk result (λ v. v.status ≡ Status.BadInf) }
 {
     let mut page = Page::new(alloc)?;

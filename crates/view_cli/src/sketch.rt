@@ -1,6 +1,7 @@
 //! What is drawn of a run: its rows, and behind them the state diagram, the changes of the resource map, the tree and the map.
 ghost use Rattle.std.specs.Prelude.{◌≡◌, ◌++◌, ◌∷◌, [], OnOk};
-ghost use Rattle.view_trace.specs.Asks.{asks, asks_of};
+ghost use Rattle.view_trace.specs.Rows.{row_of, rows};
+ghost use Rattle.view_states.specs.States.{Tells};
 
 use device_ids::WantOfMemory;
 use devnode_tree::Tree;
@@ -13,6 +14,7 @@ use view_drawings::{
     state_diagram,
 };
 use view_page::{Attribute, Page, Tag};
+use view_states::States;
 use view_trace::Rows;
 
 /// No more commits than these are drawn.
@@ -66,15 +68,20 @@ impl Drop for Kept {
     }
 }
 
-/// What was drawn of a run, and what of it is drawn behind its rows. This project's own.
+/// What was drawn of a run, what of it is drawn behind its rows, and the states behind them. This project's own.
 pub struct Sketch {
     rows: Rows,
     kept: Kept,
+    pub states: States,
 }
 
 impl Drop for Sketch {
     fn drop(self) {
-        let Sketch { rows: _, kept: _ } = self;
+        let Sketch {
+            rows: _,
+            kept: _,
+            states: _,
+        } = self;
     }
 }
 
@@ -193,13 +200,15 @@ impl Kept {
 }
 
 impl Sketch {
-    /// Nothing was drawn yet. It takes no memory.
-    pub fn new(alloc: Global) -> Sketch
-        ensures { result.rows ≡ [] }
+    /// Nothing was drawn yet, and no state told. It takes no memory.
+    pub fn new(alloc: Global, steps: bool) -> Sketch
+        ensures rows { result.rows ≡ [] }
+        ensures states { Tells result.states.written [] result.states.last }
     {
         Sketch {
             rows: Rows::new(alloc),
             kept: Kept::new(alloc),
+            states: States::new(alloc, steps),
         }
     }
 
@@ -212,7 +221,8 @@ impl Sketch {
         label: Label,
     ) -> Result<(), WantOfMemory>
         ensures elements { OnOk result (page.new.elements ≡ page.old.elements) }
-        ensures marks { OnOk result (page.new.marks ++ asks self.new.rows ≡ (page.old.marks ++ asks self.old.rows) ++ asks_of label) }
+        ensures marks { OnOk result (page.new.marks ++ rows self.new.rows ≡ (page.old.marks ++ rows self.old.rows) ++ row_of label) }
+        ensures states { self.new.states ≡ self.old.states }
     {
         self.kept.keep(alloc, tree, &label)?;
         self.rows.draw(alloc, page, label)
@@ -222,7 +232,8 @@ impl Sketch {
     pub fn end_rows(&mut self, alloc: Global, page: &mut Page) -> Result<(), WantOfMemory>
         requires { page.old.elements ≡ Tag.Ol ∷ Tag.Div ∷ Tag.Section ∷ Tag.Body ∷ [] }
         ensures elements { OnOk result (page.new.elements ≡ Tag.Body ∷ []) }
-        ensures marks { OnOk result (page.new.marks ≡ page.old.marks ++ asks self.old.rows) }
+        ensures marks { OnOk result (page.new.marks ≡ page.old.marks ++ rows self.old.rows) }
+        ensures states { self.new.states ≡ self.old.states }
     {
         self.rows.end(alloc, page)
     }

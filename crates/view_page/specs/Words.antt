@@ -53,6 +53,8 @@ tag_text Tag.Desc = codes "desc"
 tag_text Tag.Text = codes "text"
 tag_text Tag.Tspan = codes "tspan"
 tag_text Tag.A = codes "a"
+tag_text Tag.Data = codes "data"
+tag_text Tag.Script = codes "script"
 
 abbrev pub empty_text : Empty → Text
 empty_text Empty.Meta = codes "meta"
@@ -121,6 +123,8 @@ attribute_text Attribute.Open = codes "open"
 attribute_text Attribute.Tabindex = codes "tabindex"
 attribute_text Attribute.Start = codes "start"
 attribute_text Attribute.Value = codes "value"
+attribute_text Attribute.Hidden = codes "hidden"
+attribute_text Attribute.HttpEquiv = codes "http-equiv"
 attribute_text Attribute.Fragment = codes "href"
 
 -- what stands before its value: a link leads to a place of the same page

@@ -7,4 +7,6 @@ mod tags;
 mod words;
 
 pub use page::Page;
-pub use words::{Attribute, Empty, Tag, attribute_front, attribute_text, empty_text, tag_text};
+pub use words::{
+    Attribute, Empty, Part, Tag, attribute_front, attribute_text, empty_text, tag_text,
+};

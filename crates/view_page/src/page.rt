@@ -1,21 +1,29 @@
 //! A page as it is written.
 ghost use Rattle.std.specs.Prelude.{◌≡◌, ◌++◌, ◌∷◌, [], List, IfOk, OnOk, OnErr, map};
-ghost use Rattle.view_page.specs.Pages.{IsPage, arrow_tag, empty_tag, escaped, open_tag, page_end, page_front};
+ghost use Rattle.view_page.specs.Pages.{IsContent, IsPage, arrow_tag, close_tag, empty_tag, escaped, open_tag, page_end, page_front, text_element};
+ghost use Rattle.view_page.specs.declared.words.Part.{Part as Parts};
 ghost use Rattle.view_page.specs.declared.words.Tag.{Tag as Tags};
 
 use crate::escape::{WantOfMemory, push_escaped};
-use crate::tags::{arrow_tag, close_tag, empty_tag, open_tag};
-use crate::words::{Attribute, Empty, Tag};
+use crate::tags::{arrow_tag, close_tag, empty_tag, open_tag, text_element};
+use crate::words::{Attribute, Empty, Part, Tag};
 use std::alloc::Global;
 use std::marker::Model;
 
-/// A page as it is written. A contract sees the elements that are open in html, the newest first, the marks of the
-/// arrows, in order, and the bytes. This project's own.
+/// What stands on a page, and what it is marked by.
+#[derive(Drop)]
+struct Mark {
+    part: Part,
+    text: Vec<u8>,
+}
+
+/// A page as it is written. A contract sees the elements that are open in html, the newest first, the marks, in order,
+/// and the bytes. This project's own.
 #[derive(Drop)]
 pub struct Page {
     alloc: Global,
     elements: Vec<Tag>,
-    marks: Vec<Vec<u8>>,
+    marks: Vec<Mark>,
     text: Vec<u8>,
 }
 
@@ -25,9 +33,18 @@ impl Model for Page {
 
     ghost Value = { PageSoFar };
 
-    ghost view = { λ p. record { elements = reverse p.elements.items; marks = map (λ m. m.items) p.marks.items; text = p.text.items } };
+    ghost view = { λ p. record { elements = reverse p.elements.items; marks = map (λ m. (m.part, m.text.items)) p.marks.items; text = p.text.items } };
 
-    ghost invariant = { λ p. IsOpen (reverse p.elements.items) (map (λ m. m.items) p.marks.items) p.text.items };
+    ghost invariant = { λ p. IsOpen (reverse p.elements.items) (map (λ m. (m.part, m.text.items)) p.marks.items) p.text.items };
+}
+
+/// Appends a piece. After want of memory the text is as before.
+fn append(text: &mut Vec<u8>, piece: &[u8]) -> Result<(), WantOfMemory>
+    ensures items { OnOk result (text.new.items ≡ text.old.items ++ piece.now) }
+    ensures err { OnErr result (text.new.items ≡ text.old.items) }
+{
+    text.extend_from_slice(piece)?;
+    Ok(())
 }
 
 impl Page {
@@ -69,11 +86,12 @@ impl Page {
         requires { (tag : Tags) × (outer : List Tags) × (self.old.elements ≡ tag ∷ outer) }
         ensures elements { OnOk result ((tag : Tags) (outer : List Tags) → self.old.elements ≡ tag ∷ outer → self.new.elements ≡ outer) }
         ensures marks { OnOk result (self.new.marks ≡ self.old.marks) }
+        ensures text { OnOk result ((tag : Tags) (outer : List Tags) → self.old.elements ≡ tag ∷ outer → self.new.text ≡ self.old.text ++ close_tag tag) }
         ensures err { OnErr result (self.new ≡ self.old) }
     {
         let tag = self.elements[self.elements.len() - 1];
         let piece = close_tag(self.alloc, tag)?;
-        self.text.extend_from_slice(&piece)?;
+        append(&mut self.text, &piece)?;
         let _ = self.elements.pop();
         Ok(())
     }
@@ -114,14 +132,41 @@ impl Page {
         attributes: &[(Attribute, &[u8])],
     ) -> Result<(), WantOfMemory>
         ensures elements { OnOk result (self.new.elements ≡ self.old.elements) }
-        ensures marks { OnOk result (self.new.marks ≡ self.old.marks ++ mark.now ∷ []) }
+        ensures marks { OnOk result (self.new.marks ≡ self.old.marks ++ (Parts.Arrow, mark.now) ∷ []) }
         ensures text { OnOk result (self.new.text ≡ self.old.text ++ arrow_tag mark.now (map (λ a. (a.0, a.1.now)) attributes.now)) }
         ensures err { OnErr result (self.new ≡ self.old) }
     {
         let piece = arrow_tag(self.alloc, mark, attributes)?;
-        let mark = Vec::from_slice(self.alloc, mark)?;
-        self.marks.push(mark)?;
-        match self.text.extend_from_slice(&piece) {
+        self.push_marked(Part::Arrow, mark, &piece)
+    }
+
+    /// Writes an element that holds a text alone, and marks it by the text. Cost: its length.
+    pub fn marked(
+        &mut self,
+        tag: Tag,
+        attributes: &[(Attribute, &[u8])],
+        words: &[u8],
+    ) -> Result<(), WantOfMemory>
+        ensures elements { OnOk result (self.new.elements ≡ self.old.elements) }
+        ensures marks { OnOk result (self.new.marks ≡ self.old.marks ++ (Parts.Words tag, words.now) ∷ []) }
+        ensures text { OnOk result (self.new.text ≡ self.old.text ++ text_element tag (map (λ a. (a.0, a.1.now)) attributes.now) words.now) }
+        ensures err { OnErr result (self.new ≡ self.old) }
+    {
+        let piece = text_element(self.alloc, tag, attributes, words)?;
+        self.push_marked(Part::Words(tag), words, &piece)
+    }
+
+    /// Appends a piece that has this mark.
+    fn push_marked(&mut self, part: Part, text: &[u8], piece: &[u8]) -> Result<(), WantOfMemory>
+        requires { IsContent ((part, text.now) ∷ []) piece.now }
+        ensures elements { OnOk result (self.new.elements ≡ self.old.elements) }
+        ensures marks { OnOk result (self.new.marks ≡ self.old.marks ++ (part, text.now) ∷ []) }
+        ensures text { OnOk result (self.new.text ≡ self.old.text ++ piece.now) }
+        ensures err { OnErr result (self.new ≡ self.old) }
+    {
+        let text = Vec::from_slice(self.alloc, text)?;
+        self.marks.push(Mark { part, text })?;
+        match self.text.extend_from_slice(piece) {
             Ok(()) => Ok(()),
             Err(error) => {
                 let _ = self.marks.pop();
@@ -150,6 +195,7 @@ impl Page {
     ) -> Result<(), WantOfMemory>
         ensures elements { OnOk result (self.new.elements ≡ self.old.elements) }
         ensures marks { OnOk result (self.new.marks ≡ self.old.marks) }
+        ensures text { OnOk result (self.new.text ≡ self.old.text ++ open_tag tag (map (λ a. (a.0, a.1.now)) attributes.now) ++ escaped words.now ++ close_tag tag) }
     {
         self.open(tag, attributes)?;
         self.words(words)?;

@@ -1,6 +1,6 @@
 //! Tags with their attributes.
 ghost use Rattle.std.specs.Prelude.{◌≡◌, ◌++◌, IfOk, OnOk, map};
-ghost use Rattle.view_page.specs.Pages.{arrow_tag, attribute, attributes_text, close_tag, empty_tag, open_tag, valued};
+ghost use Rattle.view_page.specs.Pages.{arrow_tag, attribute, attributes_text, close_tag, empty_tag, open_tag, text_element, valued};
 
 use crate::escape::{WantOfMemory, push_escaped};
 use crate::words::{Attribute, Empty, Tag, attribute_front, attribute_text, empty_text, tag_text};
@@ -96,5 +96,21 @@ pub fn arrow_tag(
     push_valued(&mut text, b"data-mark", mark)?;
     push_attributes(&mut text, attributes)?;
     text.extend_from_slice(b"/>")?;
+    Ok(text)
+}
+
+/// An element that holds a text alone.
+pub fn text_element(
+    alloc: Global,
+    tag: Tag,
+    attributes: &[(Attribute, &[u8])],
+    words: &[u8],
+) -> Result<Vec<u8>, WantOfMemory>
+    ensures { IfOk result (λ text. text.items ≡ text_element tag (map (λ a. (a.0, a.1.now)) attributes.now) words.now) }
+{
+    let mut text = open_tag(alloc, tag, attributes)?;
+    push_escaped(&mut text, words)?;
+    let end = close_tag(alloc, tag)?;
+    text.extend_from_slice(&end)?;
     Ok(text)
 }

@@ -49,6 +49,17 @@ pub enum Tag {
     Text,
     Tspan,
     A,
+    Data,
+    Script,
+}
+
+/// What stands on a page and is marked.
+#[derive(Clone, Copy, Debug, PartialEq, Eq)]
+pub enum Part {
+    /// An arrow, which carries its mark.
+    Arrow,
+    /// A text in an element of its own: its mark is the text.
+    Words(Tag),
 }
 
 /// The name of an element with content.
@@ -100,6 +111,8 @@ pub fn tag_text(tag: Tag) -> &'static [u8]
         Tag::Text => b"text",
         Tag::Tspan => b"tspan",
         Tag::A => b"a",
+        Tag::Data => b"data",
+        Tag::Script => b"script",
     }
 }
 
@@ -194,6 +207,8 @@ pub enum Attribute {
     Tabindex,
     Start,
     Value,
+    Hidden,
+    HttpEquiv,
     /// A link to an element of the same page, by its `Id`: a `#` stands before the value.
     Fragment,
 }
@@ -256,6 +271,8 @@ pub fn attribute_text(name: Attribute) -> &'static [u8]
         Attribute::Tabindex => b"tabindex",
         Attribute::Start => b"start",
         Attribute::Value => b"value",
+        Attribute::Hidden => b"hidden",
+        Attribute::HttpEquiv => b"http-equiv",
         Attribute::Fragment => b"href",
     }
 }

@@ -1,6 +1,7 @@
 //! How an arrow looks, and that it is drawn. Where it ends is its origin; its line begins far to the left, and the style cuts it off at
 //! the manager's lane.
 ghost use Rattle.std.specs.Prelude.{◌≡◌, ◌++◌, ◌∷◌, [], OnOk};
+ghost use Rattle.view_page.specs.declared.words.Part.{Part};
 
 use device_ids::WantOfMemory;
 use pnp_labels::Shown;
@@ -52,7 +53,7 @@ pub fn draw_ask(
     shown: Shown,
 ) -> Result<(), WantOfMemory>
     ensures elements { OnOk result (page.new.elements ≡ page.old.elements) }
-    ensures marks { OnOk result (page.new.marks ≡ page.old.marks ++ line.now ∷ []) }
+    ensures marks { OnOk result (page.new.marks ≡ page.old.marks ++ (Part.Arrow, line.now) ∷ []) }
 {
     open_at(alloc, page, lane)?;
     page.arrow(

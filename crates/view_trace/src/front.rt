@@ -7,8 +7,61 @@ use device_ids::WantOfMemory;
 use pnp_labels::Shown;
 use view_page::{Attribute, Empty, Page, Tag};
 
-/// The head of the page. `style` is the style of what else the page has: it has no character that is escaped.
-fn head(page: &mut Page, title: &[u8], more: &[u8]) -> Result<(), WantOfMemory>
+/// What a page that is stepped through has in its head: what the browser may run, and the style of what it makes.
+#[derive(Clone, Copy)]
+pub struct Stepping<'a> {
+    pub policy: &'a [u8],
+    pub style: &'a [u8],
+}
+
+/// Says what the browser may run.
+fn draw_policy(page: &mut Page, stepping: Option<Stepping<'_>>) -> Result<(), WantOfMemory>
+    ensures elements { OnOk result (page.new.elements ≡ page.old.elements) }
+    ensures marks { OnOk result (page.new.marks ≡ page.old.marks) }
+{
+    match stepping {
+        Some(stepping) => page.empty(
+            Empty::Meta,
+            &[
+                (Attribute::HttpEquiv, b"Content-Security-Policy"),
+                (Attribute::Content, stepping.policy),
+            ],
+        ),
+        None => Ok(()),
+    }
+}
+
+/// The style of what is made where a page is stepped through.
+fn style_of<'a>(stepping: Option<Stepping<'a>>) -> &'a [u8] {
+    match stepping {
+        Some(stepping) => stepping.style,
+        None => b"",
+    }
+}
+
+/// The style of the page, of what else it has, and of what is made where it is stepped through: no character of them is escaped.
+fn draw_style(
+    page: &mut Page,
+    more: &[u8],
+    stepping: Option<Stepping<'_>>,
+) -> Result<(), WantOfMemory>
+    ensures elements { OnOk result (page.new.elements ≡ page.old.elements) }
+    ensures marks { OnOk result (page.new.marks ≡ page.old.marks) }
+{
+    page.open(Tag::Style, &[])?;
+    page.words(style())?;
+    page.words(more)?;
+    page.words(style_of(stepping))?;
+    page.close()
+}
+
+/// The head of the page.
+fn head(
+    page: &mut Page,
+    title: &[u8],
+    more: &[u8],
+    stepping: Option<Stepping<'_>>,
+) -> Result<(), WantOfMemory>
     ensures elements { OnOk result (page.new.elements ≡ page.old.elements) }
     ensures marks { OnOk result (page.new.marks ≡ page.old.marks) }
 {
@@ -21,11 +74,9 @@ fn head(page: &mut Page, title: &[u8], more: &[u8]) -> Result<(), WantOfMemory>
             (Attribute::Content, b"width=device-width, initial-scale=1"),
         ],
     )?;
+    draw_policy(page, stepping)?;
     page.element(Tag::Title, &[], title)?;
-    page.open(Tag::Style, &[])?;
-    page.words(style())?;
-    page.words(more)?;
-    page.close()?;
+    draw_style(page, more, stepping)?;
     page.close()
 }
 
@@ -83,13 +134,18 @@ fn heading(page: &mut Page, title: &[u8]) -> Result<(), WantOfMemory>
     page.close()
 }
 
-/// Begins a page with its head, its heading, and the place of the rows.
-pub fn begin(page: &mut Page, title: &[u8], more: &[u8]) -> Result<(), WantOfMemory>
+/// Begins a page with its head, its heading, and the place of the rows. `more` is the style of what else the page has.
+pub fn begin(
+    page: &mut Page,
+    title: &[u8],
+    more: &[u8],
+    stepping: Option<Stepping<'_>>,
+) -> Result<(), WantOfMemory>
     requires { page.old.elements ≡ [] }
     ensures elements { OnOk result (page.new.elements ≡ Tag.Ol ∷ Tag.Div ∷ Tag.Section ∷ Tag.Body ∷ []) }
     ensures marks { OnOk result (page.new.marks ≡ page.old.marks) }
 {
-    head(page, title, more)?;
+    head(page, title, more, stepping)?;
     page.open(Tag::Body, &[])?;
     heading(page, title)?;
     page.open(
@@ -106,7 +162,7 @@ pub fn begin_plain(page: &mut Page, title: &[u8]) -> Result<(), WantOfMemory>
     ensures elements { OnOk result (page.new.elements ≡ Tag.Body ∷ []) }
     ensures marks { OnOk result (page.new.marks ≡ page.old.marks) }
 {
-    head(page, title, b"")?;
+    head(page, title, b"", None)?;
     page.open(Tag::Body, &[])?;
     page.element(Tag::H1, &[], title)
 }

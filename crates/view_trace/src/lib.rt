@@ -11,5 +11,5 @@ mod style;
 mod trouble;
 mod wrong;
 
-pub use front::{begin, begin_plain};
+pub use front::{Stepping, begin, begin_plain};
 pub use rows::Rows;

@@ -1,7 +1,7 @@
 //! What of a label is drawn.
 ghost use Rattle.std.specs.Prelude.{◌≡◌, ◌++◌, ◌∷◌, [], IfOk, is_some};
 ghost use Rattle.pnp_labels.specs.Texts.{label_line};
-ghost use Rattle.view_trace.specs.Asks.{is_ask};
+ghost use Rattle.view_trace.specs.Rows.{is_ask};
 
 use device_ids::{Text, WantOfMemory};
 use pnp_labels::{Deed, Label, Shown, label_line};

@@ -1,7 +1,7 @@
 //! The rows of a trace, each beside its part of the diagram.
 ghost use Rattle.std.specs.Prelude.{◌≡◌, ◌++◌, ◌∷◌, [], OnOk};
 ghost use Rattle.pnp_labels.specs.Texts.{label_line};
-ghost use Rattle.view_trace.specs.Asks.{asks, asks_of};
+ghost use Rattle.view_trace.specs.Rows.{arrow_of, row_of, rows};
 
 use crate::arrow::{draw_ask, draw_end, draw_notice};
 use crate::lanes::{Lanes, Party};
@@ -149,7 +149,7 @@ impl Rows {
     ) -> Result<(), WantOfMemory>
         requires line { line.now ≡ label_line label.now }
         ensures elements { OnOk result (page.new.elements ≡ page.old.elements) }
-        ensures marks { OnOk result (page.new.marks ≡ page.old.marks ++ asks_of label.now) }
+        ensures marks { OnOk result (page.new.marks ≡ page.old.marks ++ arrow_of label.now) }
         ensures waiting { self.new ≡ self.old }
     {
         match question_of(label) {
@@ -170,13 +170,13 @@ impl Rows {
         label: &Label,
     ) -> Result<(), WantOfMemory>
         ensures elements { OnOk result (page.new.elements ≡ page.old.elements) }
-        ensures marks { OnOk result (page.new.marks ≡ page.old.marks ++ asks_of label.now) }
+        ensures marks { OnOk result (page.new.marks ≡ page.old.marks ++ row_of label.now) }
         ensures waiting { self.new ≡ self.old }
     {
         let line = line_of(alloc, label)?;
         self.learn(alloc, label, &line)?;
         let class: &[u8] = if self.operation { b"within" } else { b"" };
-        page.element(Tag::Code, &[(Attribute::Class, class)], &line)?;
+        page.marked(Tag::Code, &[(Attribute::Class, class)], &line)?;
         self.draw_part(alloc, page, label, &line)?;
         self.leave(label);
         Ok(())
@@ -190,7 +190,7 @@ impl Rows {
         label: &Label,
     ) -> Result<(), WantOfMemory>
         ensures elements { OnOk result (page.new.elements ≡ page.old.elements) }
-        ensures marks { OnOk result (page.new.marks ≡ page.old.marks ++ asks_of label.now) }
+        ensures marks { OnOk result (page.new.marks ≡ page.old.marks ++ row_of label.now) }
         ensures waiting { self.new ≡ self.old }
     {
         open_row(alloc, page, self.count.saturating_add(1), class_of(label))?;
@@ -206,7 +206,7 @@ impl Rows {
         labels: &[Label],
     ) -> Result<(), WantOfMemory>
         ensures elements { OnOk result (page.new.elements ≡ page.old.elements) }
-        ensures marks { OnOk result (page.new.marks ≡ page.old.marks ++ asks labels.now) }
+        ensures marks { OnOk result (page.new.marks ≡ page.old.marks ++ rows labels.now) }
         ensures waiting { OnOk result (self.new ≡ self.old) }
     {
         'labels: for label in labels {
@@ -224,7 +224,7 @@ impl Rows {
         others: &[Label],
     ) -> Result<(), WantOfMemory>
         ensures elements { OnOk result (page.new.elements ≡ page.old.elements) }
-        ensures marks { OnOk result (page.new.marks ≡ page.old.marks ++ asks_of first.now ++ asks others.now) }
+        ensures marks { OnOk result (page.new.marks ≡ page.old.marks ++ row_of first.now ++ rows others.now) }
         ensures waiting { OnOk result (self.new ≡ self.old) }
     {
         let is_open = self.count < ROWS_OPEN || has_wrong(others);
@@ -253,7 +253,7 @@ impl Rows {
         labels: &[Label],
     ) -> Result<(), WantOfMemory>
         ensures elements { OnOk result (page.new.elements ≡ page.old.elements) }
-        ensures marks { OnOk result (page.new.marks ≡ page.old.marks ++ asks labels.now) }
+        ensures marks { OnOk result (page.new.marks ≡ page.old.marks ++ rows labels.now) }
         ensures waiting { OnOk result (self.new ≡ self.old) }
     {
         if labels.len() < 2 {
@@ -268,7 +268,7 @@ impl Rows {
     /// Draws the labels that wait.
     fn draw_waiting(&mut self, alloc: Global, page: &mut Page) -> Result<(), WantOfMemory>
         ensures elements { OnOk result (page.new.elements ≡ page.old.elements) }
-        ensures marks { OnOk result (page.new.marks ≡ page.old.marks ++ asks self.old) }
+        ensures marks { OnOk result (page.new.marks ≡ page.old.marks ++ rows self.old) }
         ensures waiting { OnOk result (self.new ≡ []) }
     {
         let labels = mem::replace(&mut self.waiting, Vec::new(alloc));
@@ -283,7 +283,7 @@ impl Rows {
         label: &Label,
     ) -> Result<(), WantOfMemory>
         ensures elements { OnOk result (page.new.elements ≡ page.old.elements) }
-        ensures marks { OnOk result (page.new.marks ++ asks self.new ≡ page.old.marks ++ asks self.old) }
+        ensures marks { OnOk result (page.new.marks ++ rows self.new ≡ page.old.marks ++ rows self.old) }
     {
         if is_event(label) {
             return self.draw_waiting(alloc, page);
@@ -303,7 +303,7 @@ impl Rows {
     /// lines of the event before it, each times the number of lanes.
     pub fn draw(&mut self, alloc: Global, page: &mut Page, label: Label) -> Result<(), WantOfMemory>
         ensures elements { OnOk result (page.new.elements ≡ page.old.elements) }
-        ensures marks { OnOk result (page.new.marks ++ asks self.new ≡ (page.old.marks ++ asks self.old) ++ asks_of label) }
+        ensures marks { OnOk result (page.new.marks ++ rows self.new ≡ (page.old.marks ++ rows self.old) ++ row_of label) }
     {
         self.draw_before(alloc, page, &label)?;
         self.wait(label)?;
@@ -314,7 +314,7 @@ impl Rows {
     pub fn end(&mut self, alloc: Global, page: &mut Page) -> Result<(), WantOfMemory>
         requires { page.old.elements ≡ Tag.Ol ∷ Tag.Div ∷ Tag.Section ∷ Tag.Body ∷ [] }
         ensures elements { OnOk result (page.new.elements ≡ Tag.Body ∷ []) }
-        ensures marks { OnOk result (page.new.marks ≡ page.old.marks ++ asks self.old) }
+        ensures marks { OnOk result (page.new.marks ≡ page.old.marks ++ rows self.old) }
     {
         self.draw_waiting(alloc, page)?;
         page.close()?;

@@ -1,5 +1,5 @@
 use Rattle.std.proofs.Common.{refl, ◌∙◌, ◌++◌}
-use Rattle.view_trace.specs.Asks.{asks}
+use Rattle.view_trace.specs.Rows.{rows}
 use Rattle.view_cli.proofs.Viewing.{drawing_step, drawing_still, stepped_still, fewer_steps, reading_same}
 use Rattle.view_cli.proofs.drawing.draw_steps.Goals as goal
 
@@ -13,15 +13,17 @@ pub steps-preserved : goal.steps-preserved
 steps-preserved g c =
     record {
       drawing = λ start w.
-          drawing_step start c.steps.play c.step.new.self (c.steps.page.marks ++ asks c.steps.sketch.rows) (c.draw.new.page.marks ++ asks c.draw.new.self.rows) c.in_ok-label.field-0 c.in-Some.label c.in-Some.is
-          (c.in_ok-label.ensures.played start) c.in_ok-draw-in-Some.ensures.marks (c.steps.invariant.drawing start w);
-      elements = c.in_ok-draw-in-Some.ensures.elements ∙ c.steps.invariant.elements;
+          drawing_step start c.steps.play c.step.new.self (c.steps.page.marks ++ rows c.steps.sketch.rows) (c.draw_label.new.page.marks ++ rows c.draw_label.new.sketch.rows) c.steps.sketch.states c.draw_label.new.sketch.states
+          c.in_ok-label.field-0 c.in-Some.label c.in-Some.is (c.in_ok-label.ensures.played start) c.in_ok-label.ensures.settings c.in_ok-draw_label-in-Some.ensures.marks c.in_ok-draw_label-in-Some.ensures.states
+          (c.steps.invariant.drawing start w);
+      elements = c.in_ok-draw_label-in-Some.ensures.elements ∙ c.steps.invariant.elements;
       reading = reading_same c.steps.play c.step.new.self c.in_ok-label.field-0 c.in-Some.label c.in-Some.is c.in_ok-label.ensures.moves ∙ c.steps.invariant.reading;
     }
 
 pub returns-in-None-clause-drawing : goal.returns-in-None-clause-drawing
 returns-in-None-clause-drawing g c = λ start w.
-    drawing_still start c.steps.play c.step.new.self (c.steps.page.marks ++ asks c.steps.sketch.rows) c.in_ok-label.field-0 c.in-None.is (c.in_ok-label.ensures.played start) (c.steps.invariant.drawing start w)
+    drawing_still start c.steps.play c.step.new.self (c.steps.page.marks ++ rows c.steps.sketch.rows) c.steps.sketch.states c.in_ok-label.field-0 c.in-None.is (c.in_ok-label.ensures.played start) c.in_ok-label.ensures.settings
+    (c.steps.invariant.drawing start w)
 
 pub returns-in-None-clause-quiet : goal.returns-in-None-clause-quiet
 returns-in-None-clause-quiet g c = (stepped_still c.steps.play c.step.new.self c.in_ok-label.field-0 c.in-None.is c.in_ok-label.ensures.moves).0

@@ -6,7 +6,7 @@ use Rattle.view_cli.proofs.program.page_named.Goals as goal
 
 pub returns-in-Ok-clause-gives : goal.returns-in-Ok-clause-gives
 returns-in-Ok-clause-gives g c =
-    named_taken c.page_script.result (g.F.Files.contents c.args.files.now) (g.F.Files.contents c.read_infs.new.files) c.args.infs.now c.args.name.now c.in-Ok.taken.items (g.R.Drivers.rows c.args.rack) c.args.budget
+    named_taken c.args.steps c.page_script.result (g.F.Files.contents c.args.files.now) (g.F.Files.contents c.read_infs.new.files) c.args.infs.now c.args.name.now c.in-Ok.taken.items (g.R.Drivers.rows c.args.rack) c.args.budget
     c.read_infs.ensures.same c.in-Ok.ensures.gives c.page_script.ensures.gives
 
 pub returns-in-Ok-clause-too_large : goal.returns-in-Ok-clause-too_large

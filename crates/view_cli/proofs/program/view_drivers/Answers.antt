@@ -9,12 +9,12 @@ returns-in-Ok-clause-decided g c = λ told.
 
 pub returns-in-Ok-clause-whole : goal.returns-in-Ok-clause-whole
 returns-in-Ok-clause-whole g c = λ told.
-    view_for c.args.settings.now c.args.name.now c.requires.script c.requires.check (g.F.Files.contents c.args.files.now) _ _
+    view_for c.args.settings.now c.args.name.now c.requires.script c.requires.check (g.F.Files.contents c.args.files.now) c.args.steps _ _
     (λ output. Wrote output (g.K.Sink.taken c.args.sink.now) (g.K.Sink.taken c.view_named.new.sink)) c.in-Ok.ensures (c.view_named.ensures.whole told)
 
 pub returns-in-Ok-clause-front : goal.returns-in-Ok-clause-front
 returns-in-Ok-clause-front g c =
-    view_for c.args.settings.now c.args.name.now c.requires.script c.requires.check (g.F.Files.contents c.args.files.now) _ _
+    view_for c.args.settings.now c.args.name.now c.requires.script c.requires.check (g.F.Files.contents c.args.files.now) c.args.steps _ _
     (λ output. WroteSome output (g.K.Sink.taken c.args.sink.now) (g.K.Sink.taken c.view_named.new.sink)) c.in-Ok.ensures c.view_named.ensures.front
 
 pub returns-in-Ok-clause-read_fault : goal.returns-in-Ok-clause-read_fault

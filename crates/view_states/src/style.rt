@@ -1,0 +1,22 @@
+//! How that looks which the script makes.
+
+/// The rules for it, for the page's `<style>`. No character of them is escaped.
+pub fn style_text() -> &'static [u8] {
+    br".grid li[hidden]{display:none}
+.grid code{scroll-margin:3rem 0 50vh}
+.grid .here:not(.fold) code,.grid .fold.here summary code{outline:2px solid var(--mark);outline-offset:-2px}
+.stepper{position:sticky;bottom:0;z-index:3;margin-top:1rem;max-height:50vh;overflow:auto;padding:.5rem 0;background:var(--paper);border-top:2px solid var(--mark)}
+.stepper-row{display:flex;flex-wrap:wrap;align-items:center;gap:.25rem .75rem}
+.stepper-row input[type=range]{flex:1 1 10rem;min-width:6rem}
+.stepper label{display:flex;align-items:center;gap:.25rem;color:var(--soft)}
+.stepper input[type=search]{width:10rem;max-width:40vw;font:inherit}
+.stepper button{min-width:2.5rem;font:inherit}
+.stepper summary{font-weight:600;overflow-wrap:anywhere;padding:.25rem 0}
+.stepper-boxes{display:grid;grid-template-columns:repeat(auto-fit,minmax(min(100%,20rem),1fr));gap:.5rem}
+.stepper h2{margin:0;font-size:.875rem;color:var(--soft)}
+.stepper pre{max-height:26vh;overflow:auto;padding:.25rem .5rem;line-height:1.25rem}
+.stepper mark{background:var(--mark);color:var(--paper)}
+@media (max-width:699px){.stepper-row{gap:.25rem .5rem}.stepper input[type=search]{width:5rem}.stepper pre{max-height:12rem}}
+@media print{.stepper{display:none}}
+"
+}

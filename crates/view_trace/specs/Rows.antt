@@ -1,0 +1,25 @@
+-- The marks of the rows of a run: the line of each label, and an arrow for each ask, in order.
+use Rattle.std.specs.Prelude.{Bool, true, false, List, [], ◌∷◌, ◌++◌, if◌then◌else◌}
+use Rattle.pnp_labels.specs.Texts.{label_line}
+use Rattle.pnp_labels.specs.declared.label.Label.{Label}
+use Rattle.view_page.specs.Pages.{Mark}
+use Rattle.view_page.specs.declared.words.Part.{Part}
+use Rattle.view_page.specs.declared.words.Tag.{Tag}
+
+-- a driver is asked: a request, or to add a device
+abbrev pub is_ask : Label → Bool
+is_ask (Label.Asked minor path driver shown) = true
+is_ask (Label.Add path driver ok) = true
+is_ask _ = false
+
+-- an arrow with its line of the trace, where a driver is asked
+abbrev pub arrow_of : Label → List Mark
+arrow_of label = if is_ask label then (Part.Arrow, label_line label) ∷ [] else []
+
+-- its line, and its arrow
+abbrev pub row_of : Label → List Mark
+row_of label = (Part.Words Tag.Code, label_line label) ∷ arrow_of label
+
+abbrev pub rows : List Label → List Mark
+rows [] = []
+rows (label ∷ labels) = row_of label ++ rows labels
