@@ -6,4 +6,5 @@ mod racks;
 mod run;
 mod told;
 
+pub use pnp_machine::{Query, Waiting};
 pub use run::FreeRun;

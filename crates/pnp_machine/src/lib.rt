@@ -17,13 +17,17 @@ mod machine;
 mod manager;
 mod needs;
 mod operation;
+mod query;
 mod starts;
 mod step_operation;
 mod step_start;
 mod task_start;
 mod tasks;
 mod turn;
+mod waiting;
 
 pub use ending::EndParts;
 pub use manager::{Manager, Moved};
 pub use needs::needs_are_few;
+pub use query::Query;
+pub use waiting::Waiting;

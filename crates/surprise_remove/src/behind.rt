@@ -1,4 +1,4 @@
-ghost use Rattle.std.specs.Prelude.{◌≡◌, ◌&&◌, IfOk, OnErr, IsSome, None};
+ghost use Rattle.std.specs.Prelude.{◌≡◌, ◌&&◌, IfOk, OnErr, IsSome, None, option_map};
 ghost use Rattle.std.specs.List.{list_any};
 ghost use Rattle.pnp_model.specs.Tests.{has};
 ghost use Rattle.pnp_model.specs.Frames.{first_node};
@@ -12,6 +12,7 @@ ghost use Rattle.relations.specs.Leaving.{below, is_there};
 ghost use Rattle.pnp_labels.specs.declared.label.RemoveStep.TheVariants as steps;
 ghost use Rattle.surprise_remove.specs.Steps.{DirectSays, SettlesStripped, stays};
 ghost use Rattle.surprise_remove.specs.Parts.{finishing};
+ghost use Rattle.surprise_remove.specs.Requests.{begun_removal, request};
 
 use crate::frame::{Stage, Surprise};
 use device_ids::WantOfMemory;
@@ -59,6 +60,31 @@ impl Surprise {
         self.told.has(serial)
             || handles.is_open(serial)
             || has_below(&self.behind, tree, relations, serial)
+    }
+
+    /// The request with which the drivers of the device that is next are removed; none where it stays behind, or has none.
+    fn next_removal(&self, tree: &Tree, relations: &Relations, handles: &Handles) -> Option<Walk>
+        ensures { option_map (λ w. w.walk) result ≡ begun_removal tree.now.nodes relations.now self.now handles.now (first_node tree.now.nodes self.now.todo) }
+    {
+        let serial = self.todo.get(0)?;
+        if !has_drivers(tree, serial) || self.stays(tree, relations, handles, serial) {
+            return None;
+        }
+        Some(Walk::begin(Minor::Remove))
+    }
+
+    /// The request of which the next step is: the one that is on its way to the device that is next, also where it waits, or
+    /// the one with which its drivers are removed; none exactly where the step is of no request. Where this is to be decided,
+    /// what depends on the device stays behind only where something did that depends on it directly. It takes no memory. Cost:
+    /// where it is to be decided, the number of its children and of the members that are related to it.
+    pub fn request(&self, tree: &Tree, relations: &Relations, handles: &Handles) -> Option<Walk>
+        ensures { option_map (λ w. w.walk) result ≡ request tree.now.nodes relations.now handles.now self.now self.now.walk (first_node tree.now.nodes self.now.todo) }
+    {
+        match self.stage {
+            Stage::Settling | Stage::Ending => None,
+            Stage::Next => self.next_removal(tree, relations, handles),
+            _ => Some(self.walk),
+        }
     }
 
     /// The device that is next stays behind.

@@ -1,0 +1,133 @@
+//! The live run that the words name.
+use crate::fault::DriveFault;
+use crate::files::{read_file, read_infs};
+use crate::kinds::program_kinds;
+use crate::refusal::refusal;
+use crate::script::{reader_of, refuse_clients};
+use crate::status::Status;
+use crate::words::{Words, words_of};
+use free_run::FreeRun;
+use live_io::{FilePeer, Peer};
+use live_run::{DriveError, Ended, drive, greet};
+use pnp_io::{Files, Sink};
+use script_reader::Reader;
+use std::alloc::Global;
+
+/// The most INFs that the words may name: this project's own.
+const MOST_INFS: usize = 64;
+
+/// The status of a run that has ended.
+fn ended_status(ended: Ended) -> Status {
+    match ended {
+        Ended::Done => Status::Done,
+        Ended::BadLine => Status::BadLine,
+        Ended::AnswersEnd => Status::AnswersEnd,
+        Ended::AnswersBad => Status::AnswersBad,
+    }
+}
+
+/// The status of a run that was given up.
+fn error_status(error: DriveError) -> Status {
+    match error {
+        DriveError::ReadFault => Status::ReadFault,
+        DriveError::WriteFault => Status::WriteFault,
+        DriveError::WantOfMemory => Status::WantOfMemory,
+        DriveError::TooLarge => Status::TooLarge,
+    }
+}
+
+/// The status of a run that ended, or was given up.
+fn status_of(ended: Result<Ended, DriveError>) -> Status {
+    match ended {
+        Ok(ended) => ended_status(ended),
+        Err(error) => error_status(error),
+    }
+}
+
+/// Reads the INFs and the script, each whole, and makes the machine; none of it is told to the other side.
+fn read_named<F: Files>(
+    alloc: Global,
+    script_name: &[u8],
+    inf_names: &[Vec<u8>],
+    budget: u64,
+    files: &mut F,
+) -> Result<(FreeRun, Reader), DriveFault> {
+    let infs = read_infs(alloc, files, inf_names)?;
+    let script = read_file(alloc, files, script_name)?;
+    refuse_clients(alloc, &script)?;
+    let reader = reader_of(alloc, &script)?;
+    let kinds = program_kinds(alloc)?;
+    let run = FreeRun::new(alloc, infs, &kinds, budget)?;
+    Ok((run, reader))
+}
+
+/// The status where a run did not begin. The line of a refused INF is said.
+fn answer_fault<P: Peer>(alloc: Global, fault: DriveFault, peer: &mut P) -> Status {
+    match fault {
+        DriveFault::BadWords => Status::BadWords,
+        DriveFault::ReadFault => Status::ReadFault,
+        DriveFault::WantOfMemory => Status::WantOfMemory,
+        DriveFault::TooLarge => Status::TooLarge,
+        DriveFault::Client => Status::HasClients,
+        DriveFault::Refused(number, error) => match refusal(alloc, number, error) {
+            Err(_) => Status::WantOfMemory,
+            Ok(line) => match peer.say(&line) {
+                Ok(()) => Status::BadInf,
+                Err(error) => error_status(DriveError::from(error)),
+            },
+        },
+    }
+}
+
+/// Runs a script against the other side, which was greeted.
+fn run_named<F: Files, P: Peer>(
+    alloc: Global,
+    script_name: &[u8],
+    inf_names: &[Vec<u8>],
+    words: &Words,
+    files: &mut F,
+    peer: &mut P,
+) -> Status {
+    match read_named(alloc, script_name, inf_names, words.budget(), files) {
+        Ok((run, reader)) => status_of(drive(alloc, run, reader, &words.live, words.probes, peer)),
+        Err(fault) => answer_fault(alloc, fault, peer),
+    }
+}
+
+/// The same of words that were taken.
+fn answer<F: Files, A: Files, K: Sink>(
+    alloc: Global,
+    words: &Words,
+    files: &mut F,
+    answers: &mut A,
+    sink: &mut K,
+) -> Status {
+    let [answers_name, script_name, inf_names @ ..] = words.names.as_slice() else {
+        return Status::BadWords;
+    };
+    if inf_names.len() > MOST_INFS {
+        return Status::BadWords;
+    }
+    let mut peer = FilePeer::new(alloc, answers, answers_name, sink);
+    match greet(alloc, &mut peer) {
+        Ok(None) => run_named(alloc, script_name, inf_names, words, files, &mut peer),
+        Ok(Some(ended)) => ended_status(ended),
+        Err(error) => error_status(error),
+    }
+}
+
+/// Runs what the words name, which are the program's name, the answers, a script and up to 64 INFs, and the names of the drivers that are
+/// live; of other files than the answers there is another object, since the answers may be a pipe, which is read as it comes.
+pub fn drive_words<F: Files, A: Files, K: Sink>(
+    alloc: Global,
+    words: &[String],
+    files: &mut F,
+    answers: &mut A,
+    sink: &mut K,
+) -> Status {
+    match words_of(alloc, words) {
+        Ok(words) => answer(alloc, &words, files, answers, sink),
+        Err(DriveFault::WantOfMemory) => Status::WantOfMemory,
+        Err(_) => Status::BadWords,
+    }
+}

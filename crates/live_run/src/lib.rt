@@ -1,0 +1,16 @@
+//! A run of the machine in which some drivers are live: their answers come from another process, which is asked a line at a time.
+#![tactic(auto)]
+
+mod answers;
+mod asks;
+mod drive;
+mod live;
+mod poll;
+mod probe;
+mod step;
+mod stop;
+mod talk;
+
+pub use drive::{drive, greet};
+pub use live::LiveNames;
+pub use stop::{DriveError, Ended};
