@@ -7,9 +7,9 @@ use crate::script::{reader_of, refuse_clients};
 use crate::status::Status;
 use crate::words::{Words, words_of};
 use free_run::FreeRun;
-use live_io::{FilePeer, Peer};
+use live_io::Peer;
 use live_run::{DriveError, Ended, drive, greet};
-use pnp_io::{Files, Sink};
+use pnp_io::Files;
 use script_reader::Reader;
 use std::alloc::Global;
 
@@ -89,44 +89,39 @@ fn run_named<F: Files, P: Peer>(
     peer: &mut P,
 ) -> Status {
     match read_named(alloc, script_name, inf_names, words.budget(), files) {
-        Ok((run, reader)) => status_of(drive(alloc, run, reader, &words.live, words.probes, peer)),
+        Ok((run, reader)) => status_of(drive(alloc, run, reader, &words.live, peer)),
         Err(fault) => answer_fault(alloc, fault, peer),
     }
 }
 
-/// The same of words that were taken.
-fn answer<F: Files, A: Files, K: Sink>(
-    alloc: Global,
-    words: &Words,
-    files: &mut F,
-    answers: &mut A,
-    sink: &mut K,
-) -> Status {
+/// The same of words that were taken: the answers are opened, and greeted, before anything else is read.
+fn answer<F: Files, P: Peer>(alloc: Global, words: &Words, files: &mut F, peer: &mut P) -> Status {
     let [answers_name, script_name, inf_names @ ..] = words.names.as_slice() else {
         return Status::BadWords;
     };
     if inf_names.len() > MOST_INFS {
         return Status::BadWords;
     }
-    let mut peer = FilePeer::new(alloc, answers, answers_name, sink);
-    match greet(alloc, &mut peer) {
-        Ok(None) => run_named(alloc, script_name, inf_names, words, files, &mut peer),
+    if peer.open(answers_name).is_err() {
+        return Status::WantOfMemory;
+    }
+    match greet(alloc, peer) {
+        Ok(None) => run_named(alloc, script_name, inf_names, words, files, peer),
         Ok(Some(ended)) => ended_status(ended),
         Err(error) => error_status(error),
     }
 }
 
 /// Runs what the words name, which are the program's name, the answers, a script and up to 64 INFs, and the names of the drivers that are
-/// live; of other files than the answers there is another object, since the answers may be a pipe, which is read as it comes.
-pub fn drive_words<F: Files, A: Files, K: Sink>(
+/// live, `--live NAME` at least once, and perhaps `--probes` and `--budget N`. The answers are those that the other side has of their name.
+pub fn drive_words<F: Files, P: Peer>(
     alloc: Global,
     words: &[String],
     files: &mut F,
-    answers: &mut A,
-    sink: &mut K,
+    peer: &mut P,
 ) -> Status {
     match words_of(alloc, words) {
-        Ok(words) => answer(alloc, &words, files, answers, sink),
+        Ok(words) => answer(alloc, &words, files, peer),
         Err(DriveFault::WantOfMemory) => Status::WantOfMemory,
         Err(_) => Status::BadWords,
     }

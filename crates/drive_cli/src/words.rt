@@ -1,6 +1,6 @@
 //! The words of the command line.
 use crate::fault::DriveFault;
-use live_run::LiveNames;
+use live_run::LiveDrivers;
 use script_reader::is_name;
 use std::alloc::{AllocError, Global};
 
@@ -13,12 +13,11 @@ const MOST_BUDGET: u64 = 1_000_000;
 /// The most digits of a number: this project's own.
 const MOST_DIGITS: usize = 7;
 
-/// What the words name: the names of the answers, the script and the INFs, in this order, the drivers that are live, whether they are
-/// probed, and the budget.
+/// What the words name: the names of the answers, the script and the INFs, in this order, the drivers that are live, and the
+/// budget.
 pub(crate) struct Words {
     pub(crate) names: Vec<Vec<u8>>,
-    pub(crate) live: LiveNames,
-    pub(crate) probes: bool,
+    pub(crate) live: LiveDrivers,
     pub(crate) budget: Option<u64>,
 }
 
@@ -27,7 +26,6 @@ impl Drop for Words {
         let Words {
             names: _,
             live: _,
-            probes: _,
             budget: _,
         } = self;
     }
@@ -166,7 +164,7 @@ fn take_words(alloc: Global, given: &mut Words, words: &[String]) -> Result<(), 
                 Word::Name => given.add_name(alloc, word)?,
                 Word::Option(key) => awaited = Some(key),
                 Word::OptionHere(key, value) => given.set(alloc, key, value)?,
-                Word::Probes => given.probes = true,
+                Word::Probes => given.live.probe(),
                 Word::Dashes => ended = true,
                 Word::Other => return Err(DriveFault::BadWords),
             }
@@ -184,8 +182,7 @@ fn take_words(alloc: Global, given: &mut Words, words: &[String]) -> Result<(), 
 pub(crate) fn words_of(alloc: Global, words: &[String]) -> Result<Words, DriveFault> {
     let mut given = Words {
         names: Vec::new(alloc),
-        live: LiveNames::new(alloc),
-        probes: false,
+        live: LiveDrivers::new(alloc),
         budget: None,
     };
     if let [_, words @ ..] = words {

@@ -1,3 +1,10 @@
+// The other side as a file of answers and a sink.
+ghost use Rattle.std.specs.Prelude.{◌≡◌, ◌≤◌, ◌<◌, ◌+◌, ◌-◌, ◌++◌, ◌∷◌, [], ℕ, List, Option, Some, None, IfOk, IfSome, OnOk, OnErr, IsErrOf, Err, drop, length, take};
+ghost use Rattle.pnp_io.specs.Outside.{Appends, AppendsFront, Rose};
+ghost use Rattle.live_io.specs.Turns.{Hears, HearsOf, first_feed};
+ghost use Rattle.live_io.specs.Files.{come, HasMore};
+ghost use Rattle.live_io.specs.declared.peer.PeerError.TheVariants.{ReadFault, WriteFault, WantOfMemory};
+
 use crate::peer::{Heard, LONGEST_LINE, Peer, PeerError};
 use pnp_io::{Files, Sink, write_all};
 use std::alloc::{AllocError, Global};
@@ -5,21 +12,21 @@ use std::alloc::{AllocError, Global};
 /// The most bytes that are asked of the answers at once.
 const PIECE: usize = 4096;
 
-/// The other side as a file of answers, which may be a pipe, and a sink for what is said.
-pub struct FilePeer<'a, F: Files, K: Sink> {
-    answers: &'a mut F,
-    name: &'a [u8],
-    sink: &'a mut K,
+/// The other side as a file of answers, which may be a pipe, and a sink for what is said. This project's own.
+pub struct FilePeer<F: Files + Drop, K: Sink + Drop> {
+    files: F,
+    name: Vec<u8>,
+    sink: K,
     /// How many bytes of the answers were read.
     at: u64,
     /// Those of them that are not yet given.
     rest: Vec<u8>,
 }
 
-impl<'a, F: Files, K: Sink> Drop for FilePeer<'a, F, K> {
+impl<F: Files + Drop, K: Sink + Drop> Drop for FilePeer<F, K> {
     fn drop(self) {
         let FilePeer {
-            answers: _,
+            files: _,
             name: _,
             sink: _,
             at: _,
@@ -29,35 +36,36 @@ impl<'a, F: Files, K: Sink> Drop for FilePeer<'a, F, K> {
 }
 
 /// The place of the first line feed.
-fn feed_in(bytes: &[u8]) -> Option<usize> {
+fn feed_in(bytes: &[u8]) -> Option<usize>
+    ensures { result ≡ first_feed bytes.now }
+{
     bytes.iter().position(|byte| *byte == b'\n')
 }
 
-/// Puts bytes in the place of a text.
-fn refill(line: &mut Vec<u8>, bytes: &[u8]) -> Result<(), AllocError> {
+/// Puts bytes in the place of a line.
+fn refill(line: &mut Vec<u8>, bytes: &[u8]) -> Result<(), AllocError>
+    ensures { OnOk result (line.new.items ≡ bytes.now) }
+{
     line.clear();
     line.extend_from_slice(bytes)?;
     Ok(())
 }
 
 /// Drops so many bytes at the front.
-fn drop_front(bytes: &mut Vec<u8>, count: usize) {
-    let kept = bytes.len() - count;
+fn drop_front(bytes: &mut Vec<u8>, count: usize)
+    requires { count ≤ length bytes.old.items }
+    ensures { bytes.new.items ≡ drop count bytes.old.items }
+{
     bytes.copy_within(count.., 0);
-    bytes.truncate(kept);
+    bytes.truncate(bytes.len() - count);
 }
 
-impl<'a, F: Files, K: Sink> FilePeer<'a, F, K> {
-    /// The answers of a name, of which nothing was read yet, and a sink.
-    pub fn new(
-        alloc: Global,
-        answers: &'a mut F,
-        name: &'a [u8],
-        sink: &'a mut K,
-    ) -> FilePeer<'a, F, K> {
+impl<F: Files + Drop, K: Sink + Drop> FilePeer<F, K> {
+    /// Files, of which the one that holds the answers is still to be named, and a sink to which nothing was said.
+    pub fn new(alloc: Global, files: F, sink: K) -> FilePeer<F, K> {
         FilePeer {
-            answers,
-            name,
+            files,
+            name: Vec::new(alloc),
             sink,
             at: 0,
             rest: Vec::new(alloc),
@@ -65,18 +73,35 @@ impl<'a, F: Files, K: Sink> FilePeer<'a, F, K> {
     }
 
     /// Reads more of the answers, and answers whether more came.
-    fn read_more(&mut self) -> Result<bool, PeerError> {
+    fn read_more(&mut self) -> Result<bool, PeerError>
+        ensures more { IfOk result (λ more. HasMore more self.old.rest.items self.new.rest.items (come (F.contents self.old.files) self.old.name.items self.old.rest.items self.old.at)) }
+        ensures come { OnOk result (come (F.contents self.new.files) self.new.name.items self.new.rest.items self.new.at ≡ come (F.contents self.old.files) self.old.name.items self.old.rest.items self.old.at) }
+        ensures sink { self.new.sink ≡ self.old.sink }
+        ensures name { self.new.name ≡ self.old.name }
+        ensures contents { F.contents self.new.files ≡ F.contents self.old.files }
+        ensures read_fault { IsErrOf result ReadFault → Rose (F.faults self.old.files self.old.name.items) (F.faults self.new.files self.old.name.items) }
+        ensures no_write_fault { IsErrOf result WriteFault → ⊥ }
+        ensures reads { F.faults self.old.files self.old.name.items ≤ F.faults self.new.files self.old.name.items }
+    {
         let mut piece = [0u8; PIECE];
-        let Ok(n) = self.answers.read(self.name, self.at, &mut piece) else {
+        let Ok(n) = self.files.read(&self.name, self.at, &mut piece) else {
             return Err(PeerError::ReadFault);
         };
+        let Some(at) = self.at.checked_add(n as u64) else {
+            return Err(PeerError::WantOfMemory);
+        };
         self.rest.extend_from_slice(&piece[..n])?;
-        self.at = self.at.saturating_add(n as u64);
+        self.at = at;
         Ok(n > 0)
     }
 
-    /// Takes the line that was read.
-    fn take_line(&mut self, line: &mut Vec<u8>) -> Result<Heard, PeerError> {
+    /// Takes the line that was read. Condition: a line feed was, or too much without one.
+    fn take_line(&mut self, line: &mut Vec<u8>) -> Result<Heard, PeerError>
+        requires { first_feed self.old.rest.items ≡ None → 4096 < length self.old.rest.items }
+        ensures hears { IfOk result (λ heard. HearsOf self.old.rest.items heard line.new.items (Some self.new.rest.items)) }
+        ensures same { self.new ≡ record self.old { rest = self.new.rest } }
+        ensures memory { OnErr result (result ≡ Err WantOfMemory) }
+    {
         match feed_in(&self.rest) {
             Some(end) if end <= LONGEST_LINE => {
                 refill(line, &self.rest[..end])?;
@@ -88,7 +113,15 @@ impl<'a, F: Files, K: Sink> FilePeer<'a, F, K> {
     }
 
     /// Reads the next line.
-    fn hear(&mut self, line: &mut Vec<u8>) -> Result<Heard, PeerError> {
+    fn hear(&mut self, line: &mut Vec<u8>) -> Result<Heard, PeerError>
+        ensures hears { IfOk result (λ heard. Hears (come (F.contents self.old.files) self.old.name.items self.old.rest.items self.old.at) heard line.new.items (come (F.contents self.new.files) self.new.name.items self.new.rest.items self.new.at)) }
+        ensures sink { self.new.sink ≡ self.old.sink }
+        ensures read_fault { IsErrOf result ReadFault → Rose (F.faults self.old.files self.old.name.items) (F.faults self.new.files self.old.name.items) }
+        ensures no_write_fault { IsErrOf result WriteFault → ⊥ }
+        ensures name { self.new.name ≡ self.old.name }
+        ensures contents { F.contents self.new.files ≡ F.contents self.old.files }
+        ensures reads { F.faults self.old.files self.old.name.items ≤ F.faults self.new.files self.old.name.items }
+    {
         while feed_in(&self.rest).is_none() && self.rest.len() <= LONGEST_LINE {
             if !self.read_more()? {
                 return Ok(Heard::Over);
@@ -98,14 +131,35 @@ impl<'a, F: Files, K: Sink> FilePeer<'a, F, K> {
     }
 }
 
-impl<'a, F: Files, K: Sink> Peer for FilePeer<'a, F, K> {
+impl<F: Files + Drop, K: Sink + Drop> Peer for FilePeer<F, K> {
+    ghost use Rattle.std.specs.Prelude.{None};
+    ghost use Rattle.live_io.specs.Files.{come, held};
+
+    ghost past = { λ p. None };
+
+    ghost taken = { λ p. K.taken p.sink };
+
+    ghost held = { λ p name. held (F.contents p.files) name };
+
+    ghost answers = { λ p. come (F.contents p.files) p.name.items p.rest.items p.at };
+
+    ghost read_faults = { λ p. F.faults p.files p.name.items };
+
+    ghost write_faults = { λ p. K.faults p.sink };
+
+    fn open(&mut self, name: &[u8]) -> Result<(), AllocError> {
+        self.at = 0;
+        self.rest.clear();
+        refill(&mut self.name, name)
+    }
+
     fn say(&mut self, said: &[u8]) -> Result<(), PeerError> {
-        write_all(self.sink, said)?;
+        write_all(&mut self.sink, said)?;
         Ok(())
     }
 
     fn turn(&mut self, said: &[u8], line: &mut Vec<u8>) -> Result<Heard, PeerError> {
-        write_all(self.sink, said)?;
+        write_all(&mut self.sink, said)?;
         self.hear(line)
     }
 }

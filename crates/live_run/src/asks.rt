@@ -1,5 +1,5 @@
 //! What a live driver is asked.
-use crate::live::LiveNames;
+use crate::live::LiveDrivers;
 use device_ids::{Text, WantOfMemory};
 use free_run::{FreeRun, Query};
 use pnp_labels::{AskWhat, Minor, minor_text, push_res};
@@ -60,7 +60,7 @@ fn query_words(alloc: Global, query: &Query<'_>, driver: &Text) -> Result<Vec<u8
 pub(crate) fn live_ask(
     alloc: Global,
     run: &FreeRun,
-    live: &LiveNames,
+    live: &LiveDrivers,
 ) -> Result<Option<LiveAsk>, WantOfMemory> {
     let Some(query) = run.query() else {
         return Ok(None);

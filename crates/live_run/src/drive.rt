@@ -1,162 +1,170 @@
 //! The loop of a live run.
-use crate::live::LiveNames;
+use crate::live::LiveDrivers;
 use crate::poll::is_polled;
 use crate::step::take_step;
 use crate::stop::{DriveError, Ended, Stop};
-use crate::talk::Talk;
+use crate::talk::{Talk, push_numbered};
 use free_run::FreeRun;
 use live_io::Peer;
 use pnp_labels::Event;
 use script_reader::{Next, Reader};
 use std::alloc::Global;
 
-/// The most events that happen: the script's and those that are heard.
+/// The most events that happen, the script's and those that are heard: this project's own.
 const MOST_EVENTS: u64 = 16_777_216;
 
-/// A live run: the machine, the script, and the talk with the other side.
-struct Live<'a, 't, P: Peer> {
+/// The machine steps until no step is next.
+fn settle<P: Peer>(
     alloc: Global,
-    run: &'a mut FreeRun,
-    live: &'a LiveNames,
-    probes: bool,
-    talk: &'a mut Talk<'t, P>,
-    events: u64,
+    run: &mut FreeRun,
+    live: &LiveDrivers,
+    talk: &mut Talk,
+    peer: &mut P,
+) -> Result<(), Stop> {
+    'steps: while take_step(alloc, run, live, talk, peer)? {}
+    Ok(())
 }
 
-impl<'a, 't, P: Peer> Drop for Live<'a, 't, P> {
-    fn drop(self) {
-        let Live {
-            alloc: _,
-            run: _,
-            live: _,
-            probes: _,
-            talk: _,
-            events: _,
-        } = self;
-    }
+/// An event happens, and the machine steps until no step is next.
+fn happen<P: Peer>(
+    alloc: Global,
+    run: &mut FreeRun,
+    event: Event,
+    live: &LiveDrivers,
+    talk: &mut Talk,
+    peer: &mut P,
+) -> Result<(), Stop> {
+    let label = run.apply(event)?;
+    talk.add_label(&label, peer)?;
+    settle(alloc, run, live, talk, peer)
 }
 
-impl<'a, 't, P: Peer> Live<'a, 't, P> {
-    /// The machine steps until no step is next.
-    fn settle(&mut self) -> Result<(), Stop> {
-        for _ in 0..u64::MAX {
-            if !take_step(self.alloc, self.run, self.live, self.probes, self.talk)? {
-                return Ok(());
-            }
-        }
-        Ok(())
+/// Whether a request that waits at a live driver completes: the event; none where none waits, or none completes.
+fn completion<P: Peer>(
+    alloc: Global,
+    run: &FreeRun,
+    live: &LiveDrivers,
+    talk: &mut Talk,
+    peer: &mut P,
+) -> Result<Option<Event>, Stop> {
+    let waiting = run.waiting(alloc)?;
+    if !is_polled(&waiting, live) {
+        return Ok(None);
     }
+    talk.poll(alloc, &waiting, live, peer)
+}
 
-    /// An event happens, and the machine steps until no step is next.
-    fn happen(&mut self, event: Event) -> Result<(), Stop> {
-        if self.events >= MOST_EVENTS {
-            return Err(Stop::Fault(DriveError::TooLarge));
+/// The end of the output is said.
+fn end<P: Peer>(alloc: Global, run: &FreeRun, talk: &mut Talk, peer: &mut P) -> Result<(), Stop> {
+    let ending = run.ending(alloc)?;
+    talk.said.extend_from_slice(&ending)?;
+    talk.flush(peer)?;
+    Ok(())
+}
+
+/// What the script gives next, at a quiet state: an event; or how the run ends, which was said.
+fn next_event<P: Peer>(
+    alloc: Global,
+    run: &FreeRun,
+    reader: &mut Reader,
+    talk: &mut Talk,
+    peer: &mut P,
+) -> Result<Result<Event, Ended>, Stop> {
+    match reader.next_event()? {
+        Next::Event(event) => Ok(Ok(event)),
+        Next::Bad { line } => {
+            push_numbered(&mut talk.said, b"script error line ", line)?;
+            end(alloc, run, talk, peer)?;
+            Ok(Err(Ended::BadLine))
         }
-        self.events += 1;
-        let label = self.run.apply(event)?;
-        self.talk.add_label(&label)?;
-        self.settle()
-    }
-
-    /// Whether a request that waits at a live driver completes: the event, or none where none waits or none completes.
-    fn completion(&mut self) -> Result<Option<Event>, Stop> {
-        let waiting = self.run.waiting(self.alloc)?;
-        if !is_polled(&waiting, self.live) {
-            return Ok(None);
+        // a reader that was finished needs no more
+        Next::End | Next::NeedMore => {
+            end(alloc, run, talk, peer)?;
+            Ok(Err(Ended::Done))
         }
-        self.talk.poll(&waiting, self.live)
-    }
-
-    /// Requests that wait at live drivers complete, one after another, as long as the other side says so.
-    fn complete(&mut self) -> Result<(), Stop> {
-        for _ in 0..MOST_EVENTS {
-            match self.completion()? {
-                Some(event) => self.happen(event)?,
-                None => return Ok(()),
-            }
-        }
-        Err(Stop::Fault(DriveError::TooLarge))
-    }
-
-    /// The end of the output is said.
-    fn end(&mut self) -> Result<(), Stop> {
-        let ending = self.run.ending(self.alloc)?;
-        self.talk.add(&ending)?;
-        self.talk.flush()?;
-        Ok(())
-    }
-
-    /// The whole of a script.
-    fn play(&mut self, reader: &mut Reader) -> Result<Ended, Stop> {
-        for _ in 0..u64::MAX {
-            self.complete()?;
-            match reader.next_event()? {
-                Next::Event(event) => self.happen(event)?,
-                Next::Bad { line } => {
-                    self.talk.add_numbered(b"script error line ", line)?;
-                    self.end()?;
-                    return Ok(Ended::BadLine);
-                }
-                Next::End | Next::NeedMore => {
-                    self.end()?;
-                    return Ok(Ended::Done);
-                }
-            }
-        }
-        Ok(Ended::Done)
     }
 }
 
-/// What is said where a run goes no further.
-fn stopped<P: Peer>(stop: Stop, talk: &mut Talk<'_, P>) -> Result<Ended, DriveError> {
-    let asks = talk.asks;
-    let ended = match stop {
-        Stop::End => {
-            talk.add_numbered(b"answers end at ask ", asks)?;
+/// What happens next, at a quiet state: a request that waits at a live driver completes, or the next line of the script; or how the run ends.
+fn next_happening<P: Peer>(
+    alloc: Global,
+    run: &FreeRun,
+    reader: &mut Reader,
+    live: &LiveDrivers,
+    talk: &mut Talk,
+    peer: &mut P,
+) -> Result<Result<Event, Ended>, Stop> {
+    match completion(alloc, run, live, talk, peer)? {
+        Some(event) => Ok(Ok(event)),
+        None => next_event(alloc, run, reader, talk, peer),
+    }
+}
+
+/// The events happen, one after another, to the end.
+fn play<P: Peer>(
+    alloc: Global,
+    run: &mut FreeRun,
+    reader: &mut Reader,
+    live: &LiveDrivers,
+    talk: &mut Talk,
+    peer: &mut P,
+) -> Result<Ended, Stop> {
+    for _ in 0..MOST_EVENTS {
+        match next_happening(alloc, run, reader, live, talk, peer)? {
+            Ok(event) => happen(alloc, run, event, live, talk, peer)?,
+            Err(ended) => return Ok(ended),
+        }
+    }
+    match next_happening(alloc, run, reader, live, talk, peer)? {
+        Ok(_) => Err(Stop::Fault(DriveError::TooLarge)),
+        Err(ended) => Ok(ended),
+    }
+}
+
+/// How a run ended; where its answers ended or were none, that is said.
+fn ended_by<P: Peer>(
+    ended: Result<Ended, Stop>,
+    talk: &mut Talk,
+    peer: &mut P,
+) -> Result<Ended, DriveError> {
+    let ended = match ended {
+        Ok(ended) => return Ok(ended),
+        Err(Stop::Fault(error)) => return Err(error),
+        Err(Stop::End) => {
+            push_numbered(&mut talk.said, b"answers end at ask ", talk.asks)?;
             Ended::AnswersEnd
         }
-        Stop::Bad => {
-            talk.add_numbered(b"answers bad at ask ", asks)?;
+        Err(Stop::Bad) => {
+            push_numbered(&mut talk.said, b"answers bad at ask ", talk.asks)?;
             Ended::AnswersBad
         }
-        Stop::Fault(error) => return Err(error),
     };
-    talk.flush()?;
+    talk.flush(peer)?;
     Ok(ended)
 }
 
-/// Hears the first line of the answers, before anything is said: none where it is that of this form of talk, else how the run ended.
+/// Hears the first line of the answers, before anything is said: none where it is `live 1`; else how the run ended.
 pub fn greet<P: Peer>(alloc: Global, peer: &mut P) -> Result<Option<Ended>, DriveError> {
-    let mut talk = Talk::new(alloc, peer);
-    match talk.hear_hello() {
+    let mut talk = Talk::new(alloc);
+    match talk.hear_hello(peer) {
         Ok(()) => Ok(None),
-        Err(stop) => Ok(Some(stopped(stop, &mut talk)?)),
+        Err(stop) => Ok(Some(ended_by(Err(stop), &mut talk, peer)?)),
     }
 }
 
-/// Runs a script, which was fed whole, over drivers of which those of these names are live.
+/// Runs a script, which was fed whole, over drivers of which some are live, against the other side, which was greeted.
 pub fn drive<P: Peer>(
     alloc: Global,
     run: FreeRun,
     reader: Reader,
-    live: &LiveNames,
-    probes: bool,
+    live: &LiveDrivers,
     peer: &mut P,
 ) -> Result<Ended, DriveError> {
     let mut run = run;
     let mut reader = reader;
-    let mut talk = Talk::new(alloc, peer);
-    let ended = Live {
-        alloc,
-        run: &mut run,
-        live,
-        probes,
-        talk: &mut talk,
-        events: 0,
-    }
-    .play(&mut reader);
-    match ended {
-        Ok(ended) => Ok(ended),
-        Err(stop) => stopped(stop, &mut talk),
-    }
+    let mut talk = Talk::new(alloc);
+    let ended = play(alloc, &mut run, &mut reader, live, &mut talk, peer);
+    drop(run);
+    drop(reader);
+    ended_by(ended, &mut talk, peer)
 }

@@ -12,5 +12,5 @@ mod stop;
 mod talk;
 
 pub use drive::{drive, greet};
-pub use live::LiveNames;
+pub use live::LiveDrivers;
 pub use stop::{DriveError, Ended};

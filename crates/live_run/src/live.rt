@@ -1,35 +1,50 @@
 use device_ids::{Text, WantOfMemory};
 use std::alloc::Global;
 
-/// The names of the drivers that are live. Case does not matter, as in a script. This project's own.
-pub struct LiveNames {
+/// The drivers that are live, by name, and whether they are probed. Case does not matter, as in a script. This project's own.
+pub struct LiveDrivers {
     names: Vec<Text>,
+    probed: bool,
 }
 
-impl Drop for LiveNames {
+impl Drop for LiveDrivers {
     fn drop(self) {
-        let LiveNames { names: _ } = self;
+        let LiveDrivers {
+            names: _,
+            probed: _,
+        } = self;
     }
 }
 
-impl LiveNames {
-    /// No name. It takes no memory.
-    pub fn new(alloc: Global) -> LiveNames {
-        LiveNames {
+impl LiveDrivers {
+    /// No driver. It takes no memory.
+    pub fn new(alloc: Global) -> LiveDrivers {
+        LiveDrivers {
             names: Vec::new(alloc),
+            probed: false,
         }
     }
 
-    /// One name more.
+    /// The driver of a name is live too. After want of memory all is as before.
     pub fn add(&mut self, alloc: Global, name: &[u8]) -> Result<(), WantOfMemory> {
         let name = Text::make(alloc, name)?;
         self.names.push(name)?;
         Ok(())
     }
 
+    /// From now on they are probed.
+    pub fn probe(&mut self) {
+        self.probed = true;
+    }
+
     /// Whether there is none.
     pub fn is_empty(&self) -> bool {
         self.names.is_empty()
+    }
+
+    /// Whether they are probed.
+    pub(crate) fn are_probed(&self) -> bool {
+        self.probed
     }
 
     /// Whether a driver of this name is live. Cost: the number of names.

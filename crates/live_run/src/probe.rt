@@ -1,7 +1,7 @@
 //! Whether drivers take requests of programs as they may.
 use crate::answers::reply_of;
 use crate::stop::Stop;
-use crate::talk::{Talk, push_broken, push_note};
+use crate::talk::{Talk, push_broke, push_tags};
 use device_ids::{Text, WantOfMemory};
 use live_io::Peer;
 use pnp_labels::{Answer, DevState, state_text};
@@ -36,23 +36,25 @@ fn misfit(alloc: Global, state: DevState, answer: Answer) -> Result<Vec<u8>, Wan
     Ok(tag)
 }
 
-impl<'a, P: Peer> Talk<'a, P> {
+impl Talk {
     /// Asks a driver what it does with a create request now; which rules it broke is to be said.
-    pub(crate) fn probe_driver(
+    pub(crate) fn probe_driver<P: Peer>(
         &mut self,
+        alloc: Global,
         words: &[u8],
         driver: &Text,
         state: DevState,
+        peer: &mut P,
     ) -> Result<(), Stop> {
-        self.ask(words)?;
-        let Some(reply) = reply_of(self.alloc, &self.line, self.asks, true)? else {
+        self.ask(words, peer)?;
+        let Some(reply) = reply_of(alloc, &self.line, self.asks, true)? else {
             return Err(Stop::Bad);
         };
         if !fits(state, reply.answer) {
-            let tag = misfit(self.alloc, state, reply.answer)?;
-            push_note(&mut self.said, b"broke", self.asks, driver, Some(&tag))?;
+            let tag = misfit(alloc, state, reply.answer)?;
+            push_broke(&mut self.said, self.asks, driver.bytes(), &tag)?;
         }
-        push_broken(&mut self.said, self.asks, driver, &reply.tags)?;
+        push_tags(&mut self.said, self.asks, driver.bytes(), &reply.tags)?;
         Ok(())
     }
 }

@@ -1,6 +1,6 @@
 //! One step of a live run.
 use crate::asks::{ask_words, live_ask};
-use crate::live::LiveNames;
+use crate::live::LiveDrivers;
 use crate::stop::Stop;
 use crate::talk::Talk;
 use device_ids::{InstancePath, Text, WantOfMemory};
@@ -13,12 +13,13 @@ use std::alloc::Global;
 fn next_label<P: Peer>(
     alloc: Global,
     run: &mut FreeRun,
-    live: &LiveNames,
-    talk: &mut Talk<'_, P>,
+    live: &LiveDrivers,
+    talk: &mut Talk,
+    peer: &mut P,
 ) -> Result<Option<Label>, Stop> {
     match live_ask(alloc, run, live)? {
         Some(ask) => {
-            let answer = talk.ask_driver(&ask.words, &ask.driver, ask.may_pend)?;
+            let answer = talk.ask_driver(alloc, &ask.words, &ask.driver, ask.may_pend, peer)?;
             Ok(run.step(answer)?)
         }
         None => Ok(run.step_own()?),
@@ -29,7 +30,7 @@ fn next_label<P: Peer>(
 fn live_drivers(
     alloc: Global,
     run: &FreeRun,
-    live: &LiveNames,
+    live: &LiveDrivers,
     path: &Text,
 ) -> Result<Vec<Text>, WantOfMemory> {
     let mut drivers = Vec::new(alloc);
@@ -53,15 +54,16 @@ fn live_drivers(
 fn probe<P: Peer>(
     alloc: Global,
     run: &FreeRun,
-    live: &LiveNames,
-    talk: &mut Talk<'_, P>,
+    live: &LiveDrivers,
     path: &Text,
     state: DevState,
+    talk: &mut Talk,
+    peer: &mut P,
 ) -> Result<(), Stop> {
     let drivers = live_drivers(alloc, run, live, path)?;
     for driver in &drivers {
         let words = ask_words(alloc, b"probe", path.bytes(), driver)?;
-        talk.probe_driver(&words, driver, state)?;
+        talk.probe_driver(alloc, &words, driver, state, peer)?;
     }
     Ok(())
 }
@@ -70,16 +72,18 @@ fn probe<P: Peer>(
 pub(crate) fn take_step<P: Peer>(
     alloc: Global,
     run: &mut FreeRun,
-    live: &LiveNames,
-    probes: bool,
-    talk: &mut Talk<'_, P>,
+    live: &LiveDrivers,
+    talk: &mut Talk,
+    peer: &mut P,
 ) -> Result<bool, Stop> {
-    let Some(label) = next_label(alloc, run, live, talk)? else {
+    let Some(label) = next_label(alloc, run, live, talk, peer)? else {
         return Ok(false);
     };
-    talk.add_label(&label)?;
-    if let (true, Label::State { path, state }) = (probes, &label) {
-        probe(alloc, run, live, talk, path, *state)?;
+    talk.add_label(&label, peer)?;
+    if let Label::State { path, state } = &label {
+        if live.are_probed() {
+            probe(alloc, run, live, path, *state, talk, peer)?;
+        }
     }
     Ok(true)
 }

@@ -13,19 +13,15 @@ const HELLO: &[u8] = b"live 1";
 const ENOUGH: usize = 32_768;
 
 /// A talk with the other side: what is still to be said, the line that was heard last, and how many asks there were.
-pub(crate) struct Talk<'a, P: Peer> {
-    pub(crate) alloc: Global,
-    peer: &'a mut P,
+pub(crate) struct Talk {
     pub(crate) said: Vec<u8>,
     pub(crate) line: Vec<u8>,
     pub(crate) asks: u64,
 }
 
-impl<'a, P: Peer> Drop for Talk<'a, P> {
+impl Drop for Talk {
     fn drop(self) {
         let Talk {
-            alloc: _,
-            peer: _,
             said: _,
             line: _,
             asks: _,
@@ -43,47 +39,62 @@ fn push_ask(out: &mut Vec<u8>, ask: u64, words: &[u8]) -> Result<(), WantOfMemor
     Ok(())
 }
 
-/// Appends the note of this word that speaks of an ask and of a driver; a tag may follow.
-pub(crate) fn push_note(
-    out: &mut Vec<u8>,
-    word: &[u8],
-    ask: u64,
-    driver: &Text,
-    tag: Option<&[u8]>,
-) -> Result<(), WantOfMemory> {
-    out.extend_from_slice(b"# ")?;
-    out.extend_from_slice(word)?;
-    out.push(b' ')?;
+/// Appends the note that a poll was answered by a completion of this driver.
+pub(crate) fn push_done(out: &mut Vec<u8>, ask: u64, driver: &[u8]) -> Result<(), WantOfMemory> {
+    out.extend_from_slice(b"# done ")?;
     push_decimal(out, ask)?;
     out.push(b' ')?;
-    out.extend_from_slice(driver.bytes())?;
-    if let Some(tag) = tag {
-        out.push(b' ')?;
-        out.extend_from_slice(tag)?;
-    }
+    out.extend_from_slice(driver)?;
     out.push(b'\n')?;
     Ok(())
 }
 
-/// Appends a note for each rule that the other side says its driver broke.
-pub(crate) fn push_broken(
+/// Appends the note that a driver broke the rule of a tag.
+pub(crate) fn push_broke(
     out: &mut Vec<u8>,
     ask: u64,
-    driver: &Text,
+    driver: &[u8],
+    tag: &[u8],
+) -> Result<(), WantOfMemory> {
+    out.extend_from_slice(b"# broke ")?;
+    push_decimal(out, ask)?;
+    out.push(b' ')?;
+    out.extend_from_slice(driver)?;
+    out.push(b' ')?;
+    out.extend_from_slice(tag)?;
+    out.push(b'\n')?;
+    Ok(())
+}
+
+/// Appends such a note for each tag, in their order.
+pub(crate) fn push_tags(
+    out: &mut Vec<u8>,
+    ask: u64,
+    driver: &[u8],
     tags: &[&[u8]],
 ) -> Result<(), WantOfMemory> {
     for tag in tags {
-        push_note(out, b"broke", ask, driver, Some(tag))?;
+        push_broke(out, ask, driver, tag)?;
     }
     Ok(())
 }
 
-impl<'a, P: Peer> Talk<'a, P> {
+/// Appends a line of these words and a number behind them.
+pub(crate) fn push_numbered(
+    out: &mut Vec<u8>,
+    words: &[u8],
+    number: u64,
+) -> Result<(), WantOfMemory> {
+    out.extend_from_slice(words)?;
+    push_decimal(out, number)?;
+    out.push(b'\n')?;
+    Ok(())
+}
+
+impl Talk {
     /// A talk in which nothing was said.
-    pub(crate) fn new(alloc: Global, peer: &'a mut P) -> Talk<'a, P> {
+    pub(crate) fn new(alloc: Global) -> Talk {
         Talk {
-            alloc,
-            peer,
             said: Vec::new(alloc),
             line: Vec::new(alloc),
             asks: 0,
@@ -91,8 +102,8 @@ impl<'a, P: Peer> Talk<'a, P> {
     }
 
     /// Says all that is to be said, and hears a line.
-    fn turn(&mut self) -> Result<(), Stop> {
-        let heard = self.peer.turn(&self.said, &mut self.line)?;
+    fn turn<P: Peer>(&mut self, peer: &mut P) -> Result<(), Stop> {
+        let heard = peer.turn(&self.said, &mut self.line)?;
         self.said.clear();
         match heard {
             Heard::Line => Ok(()),
@@ -102,8 +113,8 @@ impl<'a, P: Peer> Talk<'a, P> {
     }
 
     /// Hears the first line, before anything is said.
-    pub(crate) fn hear_hello(&mut self) -> Result<(), Stop> {
-        self.turn()?;
+    pub(crate) fn hear_hello<P: Peer>(&mut self, peer: &mut P) -> Result<(), Stop> {
+        self.turn(peer)?;
         if self.line.as_slice() == HELLO {
             Ok(())
         } else {
@@ -112,54 +123,42 @@ impl<'a, P: Peer> Talk<'a, P> {
     }
 
     /// Says all that is to be said.
-    pub(crate) fn flush(&mut self) -> Result<(), PeerError> {
-        self.peer.say(&self.said)?;
+    pub(crate) fn flush<P: Peer>(&mut self, peer: &mut P) -> Result<(), PeerError> {
+        peer.say(&self.said)?;
         self.said.clear();
         Ok(())
     }
 
-    /// A text is to be said.
-    pub(crate) fn add(&mut self, text: &[u8]) -> Result<(), WantOfMemory> {
-        self.said.extend_from_slice(text)?;
-        Ok(())
-    }
-
     /// The line of a label is to be said.
-    pub(crate) fn add_label(&mut self, label: &Label) -> Result<(), Stop> {
+    pub(crate) fn add_label<P: Peer>(&mut self, label: &Label, peer: &mut P) -> Result<(), Stop> {
         push_line(&mut self.said, label)?;
         if self.said.len() >= ENOUGH {
-            self.flush()?;
+            self.flush(peer)?;
         }
         Ok(())
     }
 
-    /// A line of these words and of a number is to be said.
-    pub(crate) fn add_numbered(&mut self, words: &[u8], number: u64) -> Result<(), WantOfMemory> {
-        self.said.extend_from_slice(words)?;
-        push_decimal(&mut self.said, number)?;
-        self.said.push(b'\n')?;
-        Ok(())
-    }
-
     /// The next ask, of these words, is said, and its answer is heard.
-    pub(crate) fn ask(&mut self, words: &[u8]) -> Result<(), Stop> {
+    pub(crate) fn ask<P: Peer>(&mut self, words: &[u8], peer: &mut P) -> Result<(), Stop> {
         self.asks = self.asks.saturating_add(1);
         push_ask(&mut self.said, self.asks, words)?;
-        self.turn()
+        self.turn(peer)
     }
 
     /// Asks a driver, and hears what it answers; which rules it broke is to be said.
-    pub(crate) fn ask_driver(
+    pub(crate) fn ask_driver<P: Peer>(
         &mut self,
+        alloc: Global,
         words: &[u8],
         driver: &Text,
         may_pend: bool,
+        peer: &mut P,
     ) -> Result<Answer, Stop> {
-        self.ask(words)?;
-        let Some(reply) = reply_of(self.alloc, &self.line, self.asks, may_pend)? else {
+        self.ask(words, peer)?;
+        let Some(reply) = reply_of(alloc, &self.line, self.asks, may_pend)? else {
             return Err(Stop::Bad);
         };
-        push_broken(&mut self.said, self.asks, driver, &reply.tags)?;
+        push_tags(&mut self.said, self.asks, driver.bytes(), &reply.tags)?;
         Ok(reply.answer)
     }
 }

@@ -3,6 +3,7 @@
 #![tactic(auto)]
 
 use drive_cli::{Status, drive_words};
+use live_io::FilePeer;
 use pnp_io::{HostFiles, HostSink};
 use std::io::ErrorKind;
 use std::process::ExitCode;
@@ -27,9 +28,8 @@ fn answer(rt: &HostRuntime) -> Status {
         Err(status) => status,
         Ok(words) => {
             let mut files = HostFiles::make(rt);
-            let mut sink = HostSink::make(rt);
-            let mut answers = HostFiles::make(rt);
-            drive_words(rt.alloc(), &words, &mut files, &mut answers, &mut sink)
+            let mut peer = FilePeer::new(rt.alloc(), HostFiles::make(rt), HostSink::make(rt));
+            drive_words(rt.alloc(), &words, &mut files, &mut peer)
         }
     }
 }
