@@ -10,6 +10,7 @@ pub mod OneVerdict
 pub mod Happenings
 pub mod TwinEvents
 pub mod Outs
+pub mod AskSteps
 pub mod Armed
 pub mod Answered
 pub mod Converse

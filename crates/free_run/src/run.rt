@@ -1,6 +1,7 @@
 ghost use Rattle.std.specs.Prelude.{◌≡◌, ◌<◌, ◌≤◌, ◌^◌, IfOk, IfSome, OnErr, Some, length, option_map};
 ghost use Rattle.pnp_model.specs.Cores.{node_at};
-ghost use Rattle.pnp_model.specs.Endings.{ending, joined};
+ghost use Rattle.pnp_model.specs.Endings.{ending, joined, outstanding};
+ghost use Rattle.pnp_machine.specs.Waitings.{waiting_of};
 ghost use Rattle.pnp_model.specs.Events.{happens};
 ghost use Rattle.pnp_model.specs.Machine.{IsQuiet};
 ghost use Rattle.driver_rack.specs.Rows.{name_in};
@@ -13,10 +14,10 @@ use crate::driver::FreeDriver;
 use crate::racks::own_rack;
 use crate::told::ToldRacks;
 use device_ids::{Text, WantOfMemory};
+use devnode_tree::Tree;
 use driver_rack::Rack;
 use inf_reader::Inf;
 use pnp_labels::{Answer, DriverKind, Event, Label};
-use devnode_tree::Tree;
 use pnp_machine::{Manager, Query, Waiting};
 use std::alloc::Global;
 use std::marker::Model;
@@ -126,7 +127,9 @@ impl FreeRun {
     }
 
     /// The requests that are outstanding, in the order of the printed end, as `Manager::waiting` says.
-    pub fn waiting(&self, alloc: Global) -> Result<Vec<Waiting>, WantOfMemory> {
+    pub fn waiting(&self, alloc: Global) -> Result<Vec<Waiting>, WantOfMemory>
+        ensures { IfOk result (λ found. found.items ≡ waiting_of self.now.state.core (outstanding self.now.state)) }
+    {
         self.manager.waiting(alloc)
     }
 

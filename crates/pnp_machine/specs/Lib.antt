@@ -11,3 +11,4 @@ pub mod Ids
 pub mod Managers
 pub mod Dues
 pub mod Queries
+pub mod Waitings

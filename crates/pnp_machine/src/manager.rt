@@ -1,6 +1,7 @@
 ghost use Rattle.std.specs.Prelude.{◌≡◌, ◌<◌, ◌≤◌, ◌+◌, ◌++◌, ◌^◌, ℕ, [], true, IfOk, IfSome, OnOk, OnErr, IsSome, IsSomeAnd, Some, is_some, length, option_map};
 ghost use Rattle.pnp_model.specs.Cores.{node_at};
-ghost use Rattle.pnp_model.specs.Endings.{ending, joined};
+ghost use Rattle.pnp_model.specs.Endings.{ending, joined, outstanding};
+ghost use Rattle.pnp_machine.specs.Waitings.{waiting_of};
 ghost use Rattle.pnp_model.specs.Events.{happens};
 ghost use Rattle.pnp_model.specs.Machine.{IsQuiet, due, is_in_order};
 ghost use Rattle.pnp_model.specs.Runs.{opening};
@@ -181,7 +182,9 @@ impl<R: Drivers> Manager<R> {
 
     /// The requests that are outstanding, in the order of the printed end. Cost: the number of starts, and for each request the
     /// logarithm of the number of nodes.
-    pub fn waiting(&self, alloc: Global) -> Result<Vec<Waiting>, WantOfMemory> {
+    pub fn waiting(&self, alloc: Global) -> Result<Vec<Waiting>, WantOfMemory>
+        ensures { IfOk result (λ found. found.items ≡ waiting_of self.now.state.core (outstanding self.now.state)) }
+    {
         self.machine.waiting(alloc)
     }
 

@@ -1,11 +1,15 @@
-ghost use Rattle.std.specs.Prelude.{◌≡◌, IfSome, Some, false, option_map};
+ghost use Rattle.std.specs.Prelude.{◌≡◌, IfSome, List, Some, false, option_map};
 ghost use Rattle.free_model.specs.Asks.{activity_query, next_query, operation_query};
 ghost use Rattle.pnp_model.specs.Cores.{node_at};
 ghost use Rattle.pnp_model.specs.Machine.{is_waiting, phase_walk};
+ghost use Rattle.pnp_model.specs.Records.{Course, Driver, course_of};
+ghost use Rattle.surprise_remove.specs.Steps.{DirectSays};
+ghost use Rattle.pnp_machine.specs.Doings.{core_with};
 ghost use Rattle.pnp_machine.specs.Managers.{IsOfRun};
 ghost use Rattle.pnp_machine.specs.Operations.{operation_of};
 ghost use Rattle.pnp_machine.specs.Queries.{awake_query, query_of};
 
+use crate::devices::Devices;
 use crate::machine::Machine;
 use crate::operation::Operation;
 use device_stack::Walk;
@@ -13,7 +17,7 @@ use devnode_tree::Node;
 use driver_rack::Drivers;
 use pnp_labels::{AskWhat, Minor};
 use start_sequence::StartWork;
-use surprise_remove::ready;
+use surprise_remove::{Finish, ready};
 
 /// What a step asks a driver. This project's own.
 #[derive(Clone, Copy)]
@@ -26,13 +30,13 @@ pub struct Query<'a> {
     pub driver: u32,
 }
 
-impl<R: Drivers> Machine<R> {
+impl Devices {
     /// What a request for a device asks next; none where the device is not there, and where the request waits or has ended.
     fn query_by(&self, serial: u64, walk: &Walk) -> Option<Query<'_>>
-        ensures query { option_map query_of result ≡ awake_query (node_at serial self.now.core.nodes) walk.now.walk walk.now.walk.waits }
-        ensures node { IfSome result (λ query. node_at query.node.now.serial self.now.core.nodes ≡ Some query.node.now) }
+        ensures query { option_map query_of result ≡ awake_query (node_at serial self.now.tree.nodes) walk.now.walk walk.now.walk.waits }
+        ensures node { IfSome result (λ query. node_at query.node.now.serial self.now.tree.nodes ≡ Some query.node.now) }
     {
-        let node = self.devices.tree().node(serial)?;
+        let node = self.tree.node(serial)?;
         let driver = walk.next_driver(&node.stack)?;
         let what = AskWhat::Irp(walk.minor());
         Some(Query { what, node, driver })
@@ -41,52 +45,56 @@ impl<R: Drivers> Machine<R> {
     /// What a start that does not wait asks next.
     fn query_of_start(&self, work: &StartWork) -> Option<Query<'_>>
         requires { is_waiting (phase_walk work.now.phase) ≡ false }
-        ensures query { option_map query_of result ≡ activity_query work.now (node_at work.now.serial self.now.core.nodes) }
-        ensures node { IfSome result (λ query. node_at query.node.now.serial self.now.core.nodes ≡ Some query.node.now) }
+        ensures query { option_map query_of result ≡ activity_query work.now (node_at work.now.serial self.now.tree.nodes) }
+        ensures node { IfSome result (λ query. node_at query.node.now.serial self.now.tree.nodes ≡ Some query.node.now) }
     {
         if let Some(walk) = work.walk() {
             return self.query_by(work.serial(), walk);
         }
-        let node = self.devices.tree().node(work.serial())?;
+        let node = self.tree.node(work.serial())?;
         let driver = work.first_pending()?;
         let what = AskWhat::Add;
         Some(Query { what, node, driver })
     }
 
-    /// What the operation that runs asks next. Condition: the state is one of a run.
-    fn query_of_operation(&self, operation: &Operation) -> Option<Query<'_>>
-        requires run { IsOfRun self.now }
-        requires runs { self.now.operation ≡ Some (operation_of operation.now) }
-        ensures query { option_map query_of result ≡ operation_query self.now.core self.now.handles (operation_of operation.now) (is_waiting (operation_of operation.now).walk) }
-        ensures node { IfSome result (λ query. node_at query.node.now.serial self.now.core.nodes ≡ Some query.node.now) }
+    /// What the end of surprise removals asks next, of the device that is being finished, or of the ready one that it takes.
+    fn query_of_finish(&self, finish: &Finish) -> Option<Query<'_>>
+        ensures query { (rack : List Driver) → option_map query_of result ≡ operation_query (core_with self.now rack) self.now.handles finish.now (is_waiting finish.now.walk) }
+        ensures node { IfSome result (λ query. node_at query.node.now.serial self.now.tree.nodes ≡ Some query.node.now) }
     {
-        let tree = self.devices.tree();
-        let relations = &self.devices.relations;
-        let handles = &self.devices.handles;
-        match operation {
-            Operation::Rebalancing(rebalance) => self.query_by(
-                rebalance.first()?,
-                rebalance.walk()?,
-            ),
-            Operation::Removing(removal) => {
-                self.query_by(removal.first()?, &removal.request(tree, handles)?)
-            }
-            Operation::Surprising(surprise) => {
-                self.query_by(
-                    surprise.first()?,
-                    &surprise.request(tree, relations, handles)?,
-                )
-            }
-            Operation::Finishing(finish) => match finish.current() {
-                Some(serial) => self.query_by(serial, finish.walk()?),
-                None => self.query_by(
-                    ready(tree, relations, handles)?,
-                    &Walk::begin(Minor::Remove),
-                ),
-            },
+        if let Some(serial) = finish.current() {
+            return self.query_by(serial, finish.walk()?);
         }
+        let serial = ready(&self.tree, &self.relations, &self.handles)?;
+        self.query_by(serial, &Walk::begin(Minor::Remove))
     }
 
+    /// What an operation asks next. Condition: where a surprise removal has to decide whether a device stays behind, what
+    /// depends on it directly tells it.
+    fn query_of_operation(&self, operation: &Operation) -> Option<Query<'_>>
+        requires { course_of (operation_of operation.now).kind ≡ Course.Surprising → DirectSays self.now.tree.nodes self.now.relations (operation_of operation.now) (operation_of operation.now).stage }
+        ensures query { (rack : List Driver) → option_map query_of result ≡ operation_query (core_with self.now rack) self.now.handles (operation_of operation.now) (is_waiting (operation_of operation.now).walk) }
+        ensures node { IfSome result (λ query. node_at query.node.now.serial self.now.tree.nodes ≡ Some query.node.now) }
+    {
+        match operation {
+            Operation::Rebalancing(rebalance) => {
+                let walk = rebalance.request()?;
+                self.query_by(rebalance.first()?, &walk)
+            }
+            Operation::Removing(removal) => {
+                let walk = removal.request(&self.tree, &self.handles)?;
+                self.query_by(removal.first()?, &walk)
+            }
+            Operation::Surprising(surprise) => {
+                let walk = surprise.request(&self.tree, &self.relations, &self.handles)?;
+                self.query_by(surprise.first()?, &walk)
+            }
+            Operation::Finishing(finish) => self.query_of_finish(finish),
+        }
+    }
+}
+
+impl<R: Drivers> Machine<R> {
     /// What the next step asks, of the operation that runs, or of the lowest start that does not wait: no other step asks
     /// anybody. Condition: the state is one of a run. It takes no memory.
     pub(crate) fn query(&self) -> Option<Query<'_>>
@@ -94,12 +102,11 @@ impl<R: Drivers> Machine<R> {
         ensures query { option_map query_of result ≡ next_query self.now }
         ensures node { IfSome result (λ query. node_at query.node.now.serial self.now.core.nodes ≡ Some query.node.now) }
     {
-        match &self.operation {
-            Some(operation) => self.query_of_operation(operation),
-            None => {
-                let serial = self.starts.first_ready()?;
-                self.query_of_start(self.starts.work(serial)?)
-            }
+        if let Some(operation) = &self.operation {
+            return self.devices.query_of_operation(operation);
         }
+        let serial = self.starts.first_ready()?;
+        let work = self.starts.work(serial)?;
+        self.devices.query_of_start(work)
     }
 }

@@ -2,7 +2,7 @@ ghost use Rattle.std.specs.Prelude.{◌≡◌, IfOk, OnErr, IsSome, None, false,
 ghost use Rattle.pnp_model.specs.Frames.{first_node};
 ghost use Rattle.pnp_model.specs.Removals.{refuses_unasked, declines, queried};
 ghost use Rattle.pnp_model.specs.Records as Records;
-ghost use Rattle.pnp_model.specs.Records.{Course};
+ghost use Rattle.pnp_model.specs.Records.{Course, course_of};
 ghost use Rattle.device_holdings.specs.Mirrors.{IsMirrored, KeepsMirror};
 ghost use Rattle.pnp_labels.specs.declared.label.RemoveStep.TheVariants as steps;
 ghost use Rattle.operation_frame.specs.Steps.{Moved, MovesFor, JobSteps};
@@ -57,7 +57,8 @@ impl Removal {
     /// the query with which the device is asked; none exactly where the step is of no request. It takes no memory. Cost: the
     /// logarithms of the numbers of nodes and of devices with an open handle.
     pub fn request(&self, tree: &Tree, handles: &Handles) -> Option<Walk>
-        ensures { option_map (λ w. w.walk) result ≡ request handles.now self.now self.now.walk (first_node tree.now.nodes self.now.todo) }
+        ensures request { option_map (λ w. w.walk) result ≡ request handles.now self.now self.now.walk (first_node tree.now.nodes self.now.todo) }
+        ensures course { course_of self.now.kind ≡ Course.Removing }
     {
         match self.stage {
             Stage::Settling | Stage::Ending => None,

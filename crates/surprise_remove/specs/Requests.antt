@@ -1,29 +1,29 @@
 -- The request of which the next step of a surprise removal is.
-use Rattle.std.specs.Prelude.{Bool, true, false, List, [], ◌∷◌, ℕ, Option, Some, None}
+use Rattle.std.specs.Prelude.{ℕ, Bool, true, false, List, [], ◌∷◌, Option, Some, None}
 use Rattle.pnp_labels.specs.declared.words.Minor.{Minor}
-use Rattle.pnp_model.specs.Records.{Node, Relation, Handle, Walk, Job, Stage}
+use Rattle.pnp_model.specs.Records.{Node, Core, Handle, Walk, Job, Stage}
+use Rattle.pnp_model.specs.Surprises.{stays_behind}
 use Rattle.pnp_model.specs.Walks.{walk_of}
-use Rattle.surprise_remove.specs.Steps.{stays}
 
 -- a device without drivers loses none
-abbrev pub removal_with : List ℕ → Option Walk
-removal_with [] = None
-removal_with (d ∷ ds) = Some (walk_of Minor.Remove)
+abbrev pub removal_of : List ℕ → Option Walk
+removal_of [] = None
+removal_of (d ∷ ds) = Some (walk_of Minor.Remove)
 
 -- nor does one that stays behind
-abbrev pub removal_unless : List ℕ → Bool → Option Walk
-removal_unless stack true = None
-removal_unless stack false = removal_with stack
+abbrev pub removal_unless : Bool → List ℕ → Option Walk
+removal_unless true stack = None
+removal_unless false stack = removal_of stack
 
-abbrev pub begun_removal : List Node → List Relation → Job → List Handle → Option Node → Option Walk
-begun_removal nodes relations o handles None = None
-begun_removal nodes relations o handles (Some node) = removal_unless node.stack (stays nodes relations o handles node.serial)
+abbrev pub begun_removal : Core → Job → List Handle → Option Node → Option Walk
+begun_removal c o handles None = None
+begun_removal c o handles (Some node) = removal_unless (stays_behind c o handles node.serial) node.stack
 
-abbrev pub begun : List Node → List Relation → Job → List Handle → Stage → Option Node → Option Walk
-begun nodes relations o handles Stage.Next n = begun_removal nodes relations o handles n
-begun nodes relations o handles stage n = None
+abbrev pub begun : Core → Job → List Handle → Stage → Option Node → Option Walk
+begun c o handles Stage.Next n = begun_removal c o handles n
+begun c o handles stage n = None
 
 -- one is on its way, or begins with the step
-abbrev pub request : List Node → List Relation → List Handle → Job → Option Walk → Option Node → Option Walk
-request nodes relations handles o (Some w) n = Some w
-request nodes relations handles o None n = begun nodes relations o handles o.stage n
+abbrev pub request : Core → Job → List Handle → Option Walk → Option Node → Option Walk
+request c o handles (Some w) n = Some w
+request c o handles None n = begun c o handles o.stage n
