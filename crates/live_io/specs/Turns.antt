@@ -1,6 +1,6 @@
 -- A talk in turns: all that was said before a line was read, and the line.
-use Rattle.std.specs.Prelude.{◌≡◌, ◌≤◌, ◌==◌, ◌+◌, ℕ, nat_le, List, [], ◌∷◌, ◌++◌, length, take, drop, Option, Some, None, option_map, if◌then◌else◌}
-use Rattle.std.specs.List.{position}
+use Rattle.std.specs.Prelude.{◌≡◌, ◌≤◌, ◌==◌, ◌+◌, ℕ, nat_le, nat_lt, List, [], ◌∷◌, ◌++◌, length, take, drop, Option, Some, None, option_map, if◌then◌else◌}
+use Rattle.std.specs.List.{position_or_len}
 use Rattle.live_io.specs.declared.peer.Heard.{Heard}
 use Rattle.live_io.specs.declared.peer.Heard.TheVariants.{Line, LongLine, Over}
 
@@ -40,23 +40,25 @@ HasSaidFront old new said = (n : ℕ) × (n ≤ length said) × HasSaid old new 
 abbrev pub HasTurned : Option Past → Option Past → Text → Heard → Text → Type 0
 HasTurned old new said heard line = new ≡ option_map (with_turn said (heard_line heard line)) old
 
--- the place of the first LF
-abbrev pub first_feed : Text → Option ℕ
-first_feed text = position (λ byte. byte == 10) text
+-- how many bytes stand before the first LF, or in all where there is none
+abbrev pub feed_at : Text → ℕ
+feed_at text = position_or_len (λ byte. byte == 10) text
 
--- what is heard of a text with this first LF: a line of at most 4,096 bytes before it; or that it is too long; or that there is none
-abbrev pub heard_by : Text → Option ℕ → Heard
-heard_by text (Some at) = if nat_le at 4096 then Line else LongLine
-heard_by text None = if nat_le (length text) 4096 then Over else LongLine
+-- what is heard of a text: a line, which ends with LF; or that it has more than 4,096 bytes; or that there is none
+abbrev pub heard_by : Text → ℕ → Heard
+heard_by text at = if nat_le at 4096 then (if nat_lt at (length text) then Line else Over) else LongLine
 
--- where a line is heard, it is what stands before the first LF, and what stands behind that is still to come
-abbrev pub LineOf : Text → Option ℕ → Heard → Text → Option Text → Type 0
-LineOf text (Some at) Line line new = (line ≡ take at text) × (new ≡ Some (drop (at + 1) text))
-LineOf text at heard line new = Unit {0}
+abbrev pub heard_of : Text → Heard
+heard_of text = heard_by text (feed_at text)
+
+-- where a line is heard, it is what stands before the LF, and what stands behind that is still to come
+abbrev pub LineOf : Text → Heard → Text → Option Text → Type 0
+LineOf text Line line new = (line ≡ take (feed_at text) text) × (new ≡ Some (drop (feed_at text + 1) text))
+LineOf text heard line new = Unit {0}
 
 pub record HearsOf (text : Text) (heard : Heard) (line : Text) (new : Option Text) : Type 0 where
-  pub heard_is : heard ≡ heard_by text (first_feed text)
-  pub line_is : LineOf text (first_feed text) heard line new
+  pub heard_is : heard ≡ heard_of text
+  pub line_is : LineOf text heard line new
 
 -- what is heard of the answers that are still to come, where these are told
 abbrev pub Hears : Option Text → Heard → Text → Option Text → Type 0

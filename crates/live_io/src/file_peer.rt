@@ -1,7 +1,7 @@
 // The other side as a file of answers and a sink.
-ghost use Rattle.std.specs.Prelude.{◌≡◌, ◌≤◌, ◌<◌, ◌+◌, ◌-◌, ◌++◌, ◌∷◌, [], ℕ, List, Option, Some, None, IfOk, IfSome, OnOk, OnErr, IsErrOf, Err, drop, length, take};
+ghost use Rattle.std.specs.Prelude.{◌≡◌, ◌⊎◌, ◌≤◌, ◌<◌, ◌+◌, ◌-◌, ◌++◌, ◌∷◌, [], ℕ, List, Option, Some, None, IfOk, IfSome, OnOk, OnErr, IsErrOf, Err, drop, length, take};
 ghost use Rattle.pnp_io.specs.Outside.{Appends, AppendsFront, Rose};
-ghost use Rattle.live_io.specs.Turns.{Hears, HearsOf, first_feed};
+ghost use Rattle.live_io.specs.Turns.{Hears, HearsOf, feed_at};
 ghost use Rattle.live_io.specs.Files.{come, HasMore};
 ghost use Rattle.live_io.specs.declared.peer.PeerError.TheVariants.{ReadFault, WriteFault, WantOfMemory};
 
@@ -35,11 +35,14 @@ impl<F: Files + Drop, K: Sink + Drop> Drop for FilePeer<F, K> {
     }
 }
 
-/// The place of the first line feed.
-fn feed_in(bytes: &[u8]) -> Option<usize>
-    ensures { result ≡ first_feed bytes.now }
+/// How many bytes stand before the first line feed, or in all where there is none.
+fn feed_at(bytes: &[u8]) -> usize
+    ensures { result ≡ feed_at bytes.now }
 {
-    bytes.iter().position(|byte| *byte == b'\n')
+    bytes
+        .iter()
+        .position(|byte| *byte == b'\n')
+        .unwrap_or(bytes.len())
 }
 
 /// Puts bytes in the place of a line.
@@ -97,19 +100,18 @@ impl<F: Files + Drop, K: Sink + Drop> FilePeer<F, K> {
 
     /// Takes the line that was read. Condition: a line feed was, or too much without one.
     fn take_line(&mut self, line: &mut Vec<u8>) -> Result<Heard, PeerError>
-        requires { first_feed self.old.rest.items ≡ None → 4096 < length self.old.rest.items }
+        requires { feed_at self.old.rest.items < length self.old.rest.items ⊎ 4096 < length self.old.rest.items }
         ensures hears { IfOk result (λ heard. HearsOf self.old.rest.items heard line.new.items (Some self.new.rest.items)) }
         ensures same { self.new ≡ record self.old { rest = self.new.rest } }
         ensures memory { OnErr result (result ≡ Err WantOfMemory) }
     {
-        match feed_in(&self.rest) {
-            Some(end) if end <= LONGEST_LINE => {
-                refill(line, &self.rest[..end])?;
-                drop_front(&mut self.rest, end + 1);
-                Ok(Heard::Line)
-            }
-            _ => Ok(Heard::LongLine),
+        let end = feed_at(&self.rest);
+        if end > LONGEST_LINE {
+            return Ok(Heard::LongLine);
         }
+        refill(line, &self.rest[..end])?;
+        drop_front(&mut self.rest, end + 1);
+        Ok(Heard::Line)
     }
 
     /// Reads the next line.
@@ -122,7 +124,7 @@ impl<F: Files + Drop, K: Sink + Drop> FilePeer<F, K> {
         ensures contents { F.contents self.new.files ≡ F.contents self.old.files }
         ensures reads { F.faults self.old.files self.old.name.items ≤ F.faults self.new.files self.old.name.items }
     {
-        while feed_in(&self.rest).is_none() && self.rest.len() <= LONGEST_LINE {
+        while feed_at(&self.rest) == self.rest.len() && self.rest.len() <= LONGEST_LINE {
             if !self.read_more()? {
                 return Ok(Heard::Over);
             }
