@@ -2,9 +2,10 @@
 #![tactic(auto)]
 
 mod driver;
+mod lines;
 mod racks;
 mod run;
 mod told;
 
-pub use pnp_machine::{Query, Waiting};
+pub use lines::LineRun;
 pub use run::FreeRun;

@@ -1,9 +1,9 @@
 ghost use Rattle.std.specs.Prelude.{◌≡◌, ◌<◌, ◌≤◌, ◌^◌, IfOk, IfSome, OnErr, Some, length, option_map};
 ghost use Rattle.pnp_model.specs.Cores.{node_at};
-ghost use Rattle.pnp_model.specs.Endings.{ending, joined, outstanding};
-ghost use Rattle.pnp_machine.specs.Waitings.{waiting_of};
+ghost use Rattle.pnp_model.specs.Endings.{ending, joined};
 ghost use Rattle.pnp_model.specs.Events.{happens};
 ghost use Rattle.pnp_model.specs.Machine.{IsQuiet};
+ghost use Rattle.pnp_laws.specs.Stacks.{IsNamed};
 ghost use Rattle.driver_rack.specs.Rows.{name_in};
 ghost use Rattle.free_model.specs.Asks.{next_query};
 ghost use Rattle.free_model.specs.Frees.{free_opening};
@@ -14,11 +14,10 @@ use crate::driver::FreeDriver;
 use crate::racks::own_rack;
 use crate::told::ToldRacks;
 use device_ids::{Text, WantOfMemory};
-use devnode_tree::Tree;
 use driver_rack::Rack;
 use inf_reader::Inf;
 use pnp_labels::{Answer, DriverKind, Event, Label};
-use pnp_machine::{Manager, Query, Waiting};
+use pnp_machine::{Manager, Query};
 use std::alloc::Global;
 use std::marker::Model;
 
@@ -115,6 +114,7 @@ impl FreeRun {
     pub fn query(&self) -> Option<Query<'_>>
         ensures query { option_map query_of result ≡ next_query self.now.state }
         ensures node { IfSome result (λ query. node_at query.node.now.serial self.now.state.core.nodes ≡ Some query.node.now) }
+        ensures named { IfSome result (λ query. IsNamed self.now.state.core.rack query.driver) }
     {
         self.manager.query()
     }
@@ -124,20 +124,6 @@ impl FreeRun {
         ensures { option_map (λ text. text.now) result ≡ name_in self.now.state.core.rack driver }
     {
         self.manager.driver_name(driver)
-    }
-
-    /// The requests that are outstanding, in the order of the printed end, as `Manager::waiting` says.
-    pub fn waiting(&self, alloc: Global) -> Result<Vec<Waiting>, WantOfMemory>
-        ensures { IfOk result (λ found. found.items ≡ waiting_of self.now.state.core (outstanding self.now.state)) }
-    {
-        self.manager.waiting(alloc)
-    }
-
-    /// The device nodes.
-    pub fn tree(&self) -> &Tree
-        ensures { result.now.nodes ≡ self.now.state.core.nodes }
-    {
-        self.manager.tree()
     }
 
     /// The end of the output: the tree, what is held, the requests that are outstanding, and the handles that are open. Cost: as

@@ -1,5 +1,6 @@
 // The other side as a file of answers and a sink.
-ghost use Rattle.std.specs.Prelude.{◌≡◌, ◌⊎◌, ◌≤◌, ◌<◌, ◌+◌, ◌-◌, ◌++◌, ◌∷◌, [], ℕ, List, Option, Some, None, IfOk, IfSome, OnOk, OnErr, IsErrOf, Err, drop, length, take};
+ghost use Rattle.std.specs.Prelude.{◌≡◌, ◌==◌, ◌≤◌, ◌<◌, ◌+◌, ◌-◌, ◌++◌, ◌∷◌, [], ℕ, List, Option, Some, None, IfOk, IfSome, OnOk, OnErr, IsErrOf, Err, drop, length, take};
+ghost use Rattle.std.specs.List.{position};
 ghost use Rattle.pnp_io.specs.Outside.{Appends, AppendsFront, Rose};
 ghost use Rattle.live_io.specs.Turns.{Hears, HearsOf, feed_at};
 ghost use Rattle.live_io.specs.Files.{come, HasMore};
@@ -35,14 +36,23 @@ impl<F: Files + Drop, K: Sink + Drop> Drop for FilePeer<F, K> {
     }
 }
 
-/// How many bytes stand before the first line feed, or in all where there is none.
-fn feed_at(bytes: &[u8]) -> usize
-    ensures { result ≡ feed_at bytes.now }
+/// The place of the first line feed.
+fn first_feed(bytes: &[u8]) -> Option<usize>
+    ensures { result ≡ position (λ byte. byte == 10) bytes.now }
 {
-    bytes
-        .iter()
-        .position(|byte| *byte == b'\n')
-        .unwrap_or(bytes.len())
+    bytes.iter().position(|byte| *byte == b'\n')
+}
+
+/// How many bytes stand before the first line feed, or in all where there is none.
+#[tactic(auto, using(crate::proofs::Hearing::feed_within))]
+fn feed_at(bytes: &[u8]) -> usize
+    ensures at { result ≡ feed_at bytes.now }
+    ensures within { result ≤ length bytes.now }
+{
+    match first_feed(bytes) {
+        Some(at) => at,
+        None => bytes.len(),
+    }
 }
 
 /// Puts bytes in the place of a line.
@@ -100,7 +110,7 @@ impl<F: Files + Drop, K: Sink + Drop> FilePeer<F, K> {
 
     /// Takes the line that was read. Condition: a line feed was, or too much without one.
     fn take_line(&mut self, line: &mut Vec<u8>) -> Result<Heard, PeerError>
-        requires { feed_at self.old.rest.items < length self.old.rest.items ⊎ 4096 < length self.old.rest.items }
+        requires { feed_at self.old.rest.items ≡ length self.old.rest.items → 4096 < length self.old.rest.items }
         ensures hears { IfOk result (λ heard. HearsOf self.old.rest.items heard line.new.items (Some self.new.rest.items)) }
         ensures same { self.new ≡ record self.old { rest = self.new.rest } }
         ensures memory { OnErr result (result ≡ Err WantOfMemory) }

@@ -16,6 +16,7 @@ pub mod RunLaws
 pub mod Groups
 pub mod Turns
 pub mod Queries
+pub mod Named
 pub mod EndLines
 pub mod ActSteps
 pub mod BeginSteps

@@ -11,4 +11,3 @@ pub mod Ids
 pub mod Managers
 pub mod Dues
 pub mod Queries
-pub mod Waitings

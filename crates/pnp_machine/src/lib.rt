@@ -24,10 +24,8 @@ mod step_start;
 mod task_start;
 mod tasks;
 mod turn;
-mod waiting;
 
 pub use ending::EndParts;
 pub use manager::{Manager, Moved};
 pub use needs::needs_are_few;
 pub use query::Query;
-pub use waiting::Waiting;

@@ -1,13 +1,13 @@
 ghost use Rattle.std.specs.Prelude.{◌≡◌, ◌<◌, ◌≤◌, ◌+◌, ◌++◌, ◌^◌, ℕ, [], true, IfOk, IfSome, OnOk, OnErr, IsSome, IsSomeAnd, Some, is_some, length, option_map};
 ghost use Rattle.pnp_model.specs.Cores.{node_at};
-ghost use Rattle.pnp_model.specs.Endings.{ending, joined, outstanding};
-ghost use Rattle.pnp_machine.specs.Waitings.{waiting_of};
+ghost use Rattle.pnp_model.specs.Endings.{ending, joined};
 ghost use Rattle.pnp_model.specs.Events.{happens};
 ghost use Rattle.pnp_model.specs.Machine.{IsQuiet, due, is_in_order};
 ghost use Rattle.pnp_model.specs.Runs.{opening};
 ghost use Rattle.pnp_model.specs.States.{drop_task};
 ghost use Rattle.pnp_model.specs.Trees.{leaving};
 ghost use Rattle.pnp_laws.specs.Printed.{TreeIsPrinted};
+ghost use Rattle.pnp_laws.specs.Stacks.{IsNamed};
 ghost use Rattle.devnode_tree.specs.Trees.{Tree};
 ghost use Rattle.driver_rack.specs.Rows.{name_in};
 ghost use Rattle.free_model.specs.Asks.{next_query};
@@ -22,7 +22,6 @@ use crate::ending::EndParts;
 use crate::machine::Machine;
 use crate::needs::needs_are_few;
 use crate::query::Query;
-use crate::waiting::Waiting;
 use device_ids::{Text, WantOfMemory};
 use devnode_tree::Tree;
 use driver_rack::Drivers;
@@ -162,12 +161,13 @@ impl<R: Drivers> Manager<R> {
     }
 
     /// What the next step asks, of which driver and for which device; none exactly where the next step asks nobody, or none is
-    /// next. A step asks one driver at most, once. It takes no memory. Cost: the logarithms of the numbers of nodes, of starts
+    /// next. A step asks one driver at most, once, and one that has a name. It takes no memory. Cost: the logarithms of the numbers of nodes, of starts
     /// and of devices with an open handle; where a surprise removal comes to a device also what depends directly on it, and
     /// where the end of surprise removals takes its next device that of `surprise_remove::ready`.
     pub fn query(&self) -> Option<Query<'_>>
         ensures query { option_map query_of result ≡ next_query self.now.state }
         ensures node { IfSome result (λ query. node_at query.node.now.serial self.now.state.core.nodes ≡ Some query.node.now) }
+        ensures named { IfSome result (λ query. IsNamed self.now.state.core.rack query.driver) }
     {
         self.machine.query()
     }
@@ -178,14 +178,6 @@ impl<R: Drivers> Manager<R> {
         ensures { option_map (λ text. text.now) result ≡ name_in self.now.state.core.rack driver }
     {
         self.machine.rack.name_of(driver)
-    }
-
-    /// The requests that are outstanding, in the order of the printed end. Cost: the number of starts, and for each request the
-    /// logarithm of the number of nodes.
-    pub fn waiting(&self, alloc: Global) -> Result<Vec<Waiting>, WantOfMemory>
-        ensures { IfOk result (λ found. found.items ≡ waiting_of self.now.state.core (outstanding self.now.state)) }
-    {
-        self.machine.waiting(alloc)
     }
 
     /// The operation that the next step begins, and for which device; none exactly where the next step begins none: an

@@ -3,6 +3,7 @@ ghost use Rattle.free_model.specs.Asks.{activity_query, next_query, operation_qu
 ghost use Rattle.pnp_model.specs.Cores.{node_at};
 ghost use Rattle.pnp_model.specs.Machine.{is_waiting, phase_walk};
 ghost use Rattle.pnp_model.specs.Records.{Course, Driver, course_of};
+ghost use Rattle.pnp_laws.specs.Stacks.{IsNamed};
 ghost use Rattle.surprise_remove.specs.Steps.{DirectSays};
 ghost use Rattle.pnp_machine.specs.Doings.{core_with};
 ghost use Rattle.pnp_machine.specs.Managers.{IsOfRun};
@@ -101,6 +102,7 @@ impl<R: Drivers> Machine<R> {
         requires { IsOfRun self.now }
         ensures query { option_map query_of result ≡ next_query self.now }
         ensures node { IfSome result (λ query. node_at query.node.now.serial self.now.core.nodes ≡ Some query.node.now) }
+        ensures named { IfSome result (λ query. IsNamed self.now.core.rack query.driver) }
     {
         if let Some(operation) = &self.operation {
             return self.devices.query_of_operation(operation);
