@@ -2,6 +2,7 @@ ghost use Rattle.std.specs.Prelude.{◌≡◌, ◌<◌, ◌^◌, true, Some, IfO
 ghost use Rattle.pnp_model.specs.Cores.{node_at};
 ghost use Rattle.pnp_model.specs.Machine.{IsQuiet, due, is_in_order};
 ghost use Rattle.pnp_model.specs.Runs.{opening};
+ghost use Rattle.pnp_laws.specs.Stacks.{IsNamed};
 ghost use Rattle.pnp_machine.specs.Machines.{HasFewIds};
 ghost use Rattle.pnp_machine.specs.Queries.{query_of};
 ghost use Rattle.notify_front.specs.Fronts.{Hand, front_happens, on_set};
@@ -105,6 +106,7 @@ impl<R: Drivers> Desk<R> {
     pub(crate) fn query(&self) -> Option<Query<'_>>
         ensures query { option_map query_of result ≡ front_query (front_of self.now) }
         ensures node { IfSome result (λ query. node_at query.node.now.serial self.now.manager.state.core.nodes ≡ Some query.node.now) }
+        ensures named { IfSome result (λ query. IsNamed self.now.manager.state.core.rack query.driver) }
     {
         match self.round.turn() {
             Turn::Tell | Turn::Decline(_, _) => None,

@@ -1,5 +1,6 @@
 ghost use Rattle.std.specs.Prelude.{◌≡◌, ◌<◌, ◌^◌, ◌++◌, IfOk, IfSome, OnOk, OnErr, Some, option_map};
 ghost use Rattle.pnp_laws.specs.Printed.{TreeIsPrinted};
+ghost use Rattle.pnp_laws.specs.Stacks.{IsNamed};
 ghost use Rattle.pnp_machine.specs.Machines.{HasFewIds};
 ghost use Rattle.pnp_machine.specs.Queries.{query_of};
 ghost use Rattle.pnp_model.specs.Cores.{node_at};
@@ -110,6 +111,7 @@ impl<R: Drivers> Front<R> {
     pub fn query(&self) -> Option<Query<'_>>
         ensures query { option_map query_of result ≡ front_query (front_of self.now) }
         ensures node { IfSome result (λ query. node_at query.node.now.serial self.now.manager.state.core.nodes ≡ Some query.node.now) }
+        ensures named { IfSome result (λ query. IsNamed self.now.manager.state.core.rack query.driver) }
     {
         self.desk.query()
     }
