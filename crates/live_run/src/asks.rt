@@ -1,8 +1,9 @@
 //! What a live driver is asked.
 use crate::live::LiveDrivers;
 use device_ids::{Text, WantOfMemory};
-use free_run::{FreeRun, Query};
+use free_run::FreeRun;
 use pnp_labels::{AskWhat, Minor, minor_text, push_res};
+use pnp_machine::Query;
 use resource_reqs::ResList;
 use std::alloc::Global;
 

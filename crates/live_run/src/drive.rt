@@ -1,9 +1,9 @@
 //! The loop of a live run.
 use crate::live::LiveDrivers;
-use crate::poll::is_polled;
 use crate::step::take_step;
 use crate::stop::{DriveError, Ended, Stop};
 use crate::talk::{Talk, push_numbered};
+use crate::trail::Trail;
 use free_run::FreeRun;
 use live_io::Peer;
 use pnp_labels::Event;
@@ -18,10 +18,11 @@ fn settle<P: Peer>(
     alloc: Global,
     run: &mut FreeRun,
     live: &LiveDrivers,
+    trail: &mut Trail,
     talk: &mut Talk,
     peer: &mut P,
 ) -> Result<(), Stop> {
-    'steps: while take_step(alloc, run, live, talk, peer)? {}
+    'steps: while take_step(alloc, run, live, trail, talk, peer)? {}
     Ok(())
 }
 
@@ -31,27 +32,28 @@ fn happen<P: Peer>(
     run: &mut FreeRun,
     event: Event,
     live: &LiveDrivers,
+    trail: &mut Trail,
     talk: &mut Talk,
     peer: &mut P,
 ) -> Result<(), Stop> {
     let label = run.apply(event)?;
     talk.add_label(&label, peer)?;
-    settle(alloc, run, live, talk, peer)
+    trail.follow(alloc, live, &label)?;
+    settle(alloc, run, live, trail, talk, peer)
 }
 
 /// Whether a request that waits at a live driver completes: the event; none where none waits, or none completes.
 fn completion<P: Peer>(
     alloc: Global,
-    run: &FreeRun,
-    live: &LiveDrivers,
+    trail: &Trail,
     talk: &mut Talk,
     peer: &mut P,
 ) -> Result<Option<Event>, Stop> {
-    let waiting = run.waiting(alloc)?;
-    if !is_polled(&waiting, live) {
-        return Ok(None);
+    if trail.waits() {
+        talk.poll(alloc, trail, peer)
+    } else {
+        Ok(None)
     }
-    talk.poll(alloc, &waiting, live, peer)
 }
 
 /// The end of the output is said.
@@ -90,11 +92,11 @@ fn next_happening<P: Peer>(
     alloc: Global,
     run: &FreeRun,
     reader: &mut Reader,
-    live: &LiveDrivers,
+    trail: &Trail,
     talk: &mut Talk,
     peer: &mut P,
 ) -> Result<Result<Event, Ended>, Stop> {
-    match completion(alloc, run, live, talk, peer)? {
+    match completion(alloc, trail, talk, peer)? {
         Some(event) => Ok(Ok(event)),
         None => next_event(alloc, run, reader, talk, peer),
     }
@@ -106,16 +108,17 @@ fn play<P: Peer>(
     run: &mut FreeRun,
     reader: &mut Reader,
     live: &LiveDrivers,
+    trail: &mut Trail,
     talk: &mut Talk,
     peer: &mut P,
 ) -> Result<Ended, Stop> {
     for _ in 0..MOST_EVENTS {
-        match next_happening(alloc, run, reader, live, talk, peer)? {
-            Ok(event) => happen(alloc, run, event, live, talk, peer)?,
+        match next_happening(alloc, run, reader, trail, talk, peer)? {
+            Ok(event) => happen(alloc, run, event, live, trail, talk, peer)?,
             Err(ended) => return Ok(ended),
         }
     }
-    match next_happening(alloc, run, reader, live, talk, peer)? {
+    match next_happening(alloc, run, reader, trail, talk, peer)? {
         Ok(_) => Err(Stop::Fault(DriveError::TooLarge)),
         Err(ended) => Ok(ended),
     }
@@ -162,8 +165,17 @@ pub fn drive<P: Peer>(
 ) -> Result<Ended, DriveError> {
     let mut run = run;
     let mut reader = reader;
+    let mut trail = Trail::new(alloc);
     let mut talk = Talk::new(alloc);
-    let ended = play(alloc, &mut run, &mut reader, live, &mut talk, peer);
+    let ended = play(
+        alloc,
+        &mut run,
+        &mut reader,
+        live,
+        &mut trail,
+        &mut talk,
+        peer,
+    );
     drop(run);
     drop(reader);
     ended_by(ended, &mut talk, peer)

@@ -10,6 +10,7 @@ mod probe;
 mod step;
 mod stop;
 mod talk;
+mod trail;
 
 pub use drive::{drive, greet};
 pub use live::LiveDrivers;

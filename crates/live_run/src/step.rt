@@ -3,7 +3,8 @@ use crate::asks::{ask_words, live_ask};
 use crate::live::LiveDrivers;
 use crate::stop::Stop;
 use crate::talk::Talk;
-use device_ids::{InstancePath, Text, WantOfMemory};
+use crate::trail::Trail;
+use device_ids::Text;
 use free_run::FreeRun;
 use live_io::Peer;
 use pnp_labels::{DevState, Label};
@@ -26,53 +27,31 @@ fn next_label<P: Peer>(
     }
 }
 
-/// The live drivers of the device of a path, the lowest first.
-fn live_drivers(
-    alloc: Global,
-    run: &FreeRun,
-    live: &LiveDrivers,
-    path: &Text,
-) -> Result<Vec<Text>, WantOfMemory> {
-    let mut drivers = Vec::new(alloc);
-    let Ok(path) = InstancePath::read(alloc, path.bytes()) else {
-        return Ok(drivers);
-    };
-    let Some(serial) = run.tree().find(&path) else {
-        return Ok(drivers);
-    };
-    let stack = &run.tree().at(serial).stack;
-    for at in 0..stack.len() {
-        match run.driver_name(*stack.get(at)) {
-            Some(driver) if live.has(driver) => drivers.push(driver.copy(alloc)?)?,
-            _ => {}
-        }
-    }
-    Ok(drivers)
-}
-
-/// Asks the live drivers of a device that has come to a state whether they take a create request.
+/// Asks each live driver of a device that has come to a state whether it takes a create request, the lowest first.
 fn probe<P: Peer>(
     alloc: Global,
-    run: &FreeRun,
-    live: &LiveDrivers,
     path: &Text,
     state: DevState,
+    trail: &Trail,
     talk: &mut Talk,
     peer: &mut P,
 ) -> Result<(), Stop> {
-    let drivers = live_drivers(alloc, run, live, path)?;
-    for driver in &drivers {
-        let words = ask_words(alloc, b"probe", path.bytes(), driver)?;
-        talk.probe_driver(alloc, &words, driver, state, peer)?;
+    for at in 0..trail.attached() {
+        if let Some(driver) = trail.attached_to(path, at) {
+            let words = ask_words(alloc, b"probe", path.bytes(), driver)?;
+            talk.probe_driver(alloc, &words, driver, state, peer)?;
+        }
     }
     Ok(())
 }
 
-/// Makes the next step, and answers whether there was one: its line is to be said.
+/// Makes the next step, and answers whether there was one: its line is to be said, and, where live drivers are probed, they are behind a
+/// line of a state.
 pub(crate) fn take_step<P: Peer>(
     alloc: Global,
     run: &mut FreeRun,
     live: &LiveDrivers,
+    trail: &mut Trail,
     talk: &mut Talk,
     peer: &mut P,
 ) -> Result<bool, Stop> {
@@ -80,9 +59,10 @@ pub(crate) fn take_step<P: Peer>(
         return Ok(false);
     };
     talk.add_label(&label, peer)?;
+    trail.follow(alloc, live, &label)?;
     if let Label::State { path, state } = &label {
         if live.are_probed() {
-            probe(alloc, run, live, path, *state, talk, peer)?;
+            probe(alloc, path, *state, trail, talk, peer)?;
         }
     }
     Ok(true)
