@@ -4,6 +4,7 @@
 mod fault;
 mod files;
 mod kinds;
+mod machine;
 mod program;
 mod refusal;
 mod script;

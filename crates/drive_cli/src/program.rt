@@ -1,14 +1,17 @@
 //! The live run that the words name.
+ghost use Rattle.std.specs.Prelude.{◌≡◌, ◌≤◌, IfOk, length};
+
 use crate::fault::DriveFault;
 use crate::files::{read_file, read_infs};
 use crate::kinds::program_kinds;
+use crate::machine::ProgramMachine;
 use crate::refusal::refusal;
 use crate::script::{reader_of, refuse_clients};
 use crate::status::Status;
 use crate::words::{Words, words_of};
 use free_run::FreeRun;
 use live_io::Peer;
-use live_run::{DriveError, Ended, drive, greet};
+use live_run::{DriveError, Ended, LiveDrivers, drive, greet};
 use pnp_io::Files;
 use script_reader::Reader;
 use std::alloc::Global;
@@ -44,6 +47,28 @@ fn status_of(ended: Result<Ended, DriveError>) -> Status {
     }
 }
 
+/// What the words name: the machine before its first event, and the script.
+#[derive(Drop)]
+struct Named {
+    machine: ProgramMachine,
+    reader: Reader,
+}
+
+/// Runs a script on a machine.
+fn run_machine<P: Peer>(
+    alloc: Global,
+    machine: ProgramMachine,
+    reader: Reader,
+    live: &LiveDrivers,
+    peer: &mut P,
+) -> Status
+    requires { machine.run.events ≡ 0 }
+{
+    let mut machine = machine;
+    let mut reader = reader;
+    status_of(drive(alloc, &mut machine, &mut reader, live, peer))
+}
+
 /// Reads the INFs and the script, each whole, and makes the machine; none of it is told to the other side.
 fn read_named<F: Files>(
     alloc: Global,
@@ -51,14 +76,19 @@ fn read_named<F: Files>(
     inf_names: &[Vec<u8>],
     budget: u64,
     files: &mut F,
-) -> Result<(FreeRun, Reader), DriveFault> {
+) -> Result<Named, DriveFault>
+    requires few { length inf_names.now ≤ 64 }
+    requires budget { budget ≤ 1000000 }
+    ensures { IfOk result (λ named. named.machine.run.events ≡ 0) }
+{
     let infs = read_infs(alloc, files, inf_names)?;
     let script = read_file(alloc, files, script_name)?;
     refuse_clients(alloc, &script)?;
     let reader = reader_of(alloc, &script)?;
     let kinds = program_kinds(alloc)?;
     let run = FreeRun::new(alloc, infs, &kinds, budget)?;
-    Ok((run, reader))
+    let machine = ProgramMachine::new(run);
+    Ok(Named { machine, reader })
 }
 
 /// The status where a run did not begin. The line of a refused INF is said.
@@ -87,9 +117,11 @@ fn run_named<F: Files, P: Peer>(
     words: &Words,
     files: &mut F,
     peer: &mut P,
-) -> Status {
+) -> Status
+    requires { length inf_names.now ≤ 64 }
+{
     match read_named(alloc, script_name, inf_names, words.budget(), files) {
-        Ok((run, reader)) => status_of(drive(alloc, run, reader, &words.live, peer)),
+        Ok(Named { machine, reader }) => run_machine(alloc, machine, reader, &words.live, peer),
         Err(fault) => answer_fault(alloc, fault, peer),
     }
 }

@@ -1,4 +1,6 @@
 //! The words of the command line.
+ghost use Rattle.std.specs.Prelude.{◌≤◌};
+
 use crate::fault::DriveFault;
 use live_run::LiveDrivers;
 use script_reader::is_name;
@@ -143,8 +145,10 @@ impl Words {
     }
 
     /// How many places a search may try.
-    pub(crate) fn budget(&self) -> u64 {
-        self.budget.unwrap_or(BUDGET)
+    pub(crate) fn budget(&self) -> u64
+        ensures { result ≤ 1000000 }
+    {
+        self.budget.unwrap_or(BUDGET).min(MOST_BUDGET)
     }
 }
 

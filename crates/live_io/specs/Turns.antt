@@ -1,6 +1,6 @@
 -- A talk in turns: all that was said before a line was read, and the line.
-use Rattle.std.specs.Prelude.{◌≡◌, ◌≤◌, ◌==◌, ◌+◌, ℕ, nat_le, nat_lt, List, [], ◌∷◌, ◌++◌, length, take, drop, Option, Some, None, option_map, if◌then◌else◌}
-use Rattle.std.specs.List.{position_or_len}
+use Rattle.std.specs.Prelude.{◌≡◌, ◌≤◌, ◌==◌, ◌+◌, ℕ, nat_le, nat_lt, List, [], ◌∷◌, ◌++◌, length, take, drop, Option, Some, None, option_map, unwrap_or, if◌then◌else◌}
+use Rattle.std.specs.List.{position}
 use Rattle.live_io.specs.declared.peer.Heard.{Heard}
 use Rattle.live_io.specs.declared.peer.Heard.TheVariants.{Line, LongLine, Over}
 
@@ -42,7 +42,7 @@ HasTurned old new said heard line = new ≡ option_map (with_turn said (heard_li
 
 -- how many bytes stand before the first LF, or in all where there is none
 abbrev pub feed_at : Text → ℕ
-feed_at text = position_or_len (λ byte. byte == 10) text
+feed_at text = unwrap_or (position (λ byte. byte == 10) text) (length text)
 
 -- what is heard of a text: a line, which ends with LF; or that it has more than 4,096 bytes; or that there is none
 abbrev pub heard_by : Text → ℕ → Heard

@@ -1,5 +1,5 @@
 // The other side as a file of answers and a sink.
-ghost use Rattle.std.specs.Prelude.{◌≡◌, ◌==◌, ◌≤◌, ◌<◌, ◌+◌, ◌-◌, ◌++◌, ◌∷◌, [], ℕ, List, Option, Some, None, IfOk, IfSome, OnOk, OnErr, IsErrOf, Err, drop, length, take};
+ghost use Rattle.std.specs.Prelude.{◌≡◌, ◌==◌, ◌≤◌, ◌<◌, ◌+◌, ◌-◌, ◌++◌, ◌∷◌, [], ℕ, List, Option, Some, None, IfOk, IfSome, OnOk, OnErr, IsErrOf, Err, true, false, drop, length, take};
 ghost use Rattle.std.specs.List.{position};
 ghost use Rattle.pnp_io.specs.Outside.{Appends, AppendsFront, Rose};
 ghost use Rattle.live_io.specs.Turns.{Hears, HearsOf, feed_at};
@@ -38,13 +38,13 @@ impl<F: Files + Drop, K: Sink + Drop> Drop for FilePeer<F, K> {
 
 /// The place of the first line feed.
 fn first_feed(bytes: &[u8]) -> Option<usize>
-    ensures { result ≡ position (λ byte. byte == 10) bytes.now }
+    ensures at { result ≡ position (λ byte. byte == 10) bytes.now }
+    ensures within { IfSome result (λ at. at < length bytes.now) }
 {
     bytes.iter().position(|byte| *byte == b'\n')
 }
 
 /// How many bytes stand before the first line feed, or in all where there is none.
-#[tactic(auto, using(crate::proofs::Hearing::feed_within))]
 fn feed_at(bytes: &[u8]) -> usize
     ensures at { result ≡ feed_at bytes.now }
     ensures within { result ≤ length bytes.now }
@@ -108,11 +108,23 @@ impl<F: Files + Drop, K: Sink + Drop> FilePeer<F, K> {
         Ok(n > 0)
     }
 
-    /// Takes the line that was read. Condition: a line feed was, or too much without one.
+    /// Whether no line was read yet, and not too much without one.
+    fn is_open(&self) -> bool
+        ensures open { result ≡ true → (feed_at self.now.rest.items ≡ length self.now.rest.items) × (length self.now.rest.items ≤ 4096) }
+        ensures shut { result ≡ false → feed_at self.now.rest.items ≡ length self.now.rest.items → 4096 < length self.now.rest.items }
+    {
+        feed_at(&self.rest) == self.rest.len() && self.rest.len() <= LONGEST_LINE
+    }
+
+    /// Takes the line that was read. Condition: one was, or too much without one.
     fn take_line(&mut self, line: &mut Vec<u8>) -> Result<Heard, PeerError>
         requires { feed_at self.old.rest.items ≡ length self.old.rest.items → 4096 < length self.old.rest.items }
+        ensures enough { feed_at self.old.rest.items ≡ length self.old.rest.items → 4096 < length self.old.rest.items }
         ensures hears { IfOk result (λ heard. HearsOf self.old.rest.items heard line.new.items (Some self.new.rest.items)) }
-        ensures same { self.new ≡ record self.old { rest = self.new.rest } }
+        ensures files { self.new.files ≡ self.old.files }
+        ensures name { self.new.name ≡ self.old.name }
+        ensures sink { self.new.sink ≡ self.old.sink }
+        ensures at { self.new.at ≡ self.old.at }
         ensures memory { OnErr result (result ≡ Err WantOfMemory) }
     {
         let end = feed_at(&self.rest);
@@ -125,6 +137,7 @@ impl<F: Files + Drop, K: Sink + Drop> FilePeer<F, K> {
     }
 
     /// Reads the next line.
+    #[tactic(auto, using(crate::proofs::Hearing::hears_over))]
     fn hear(&mut self, line: &mut Vec<u8>) -> Result<Heard, PeerError>
         ensures hears { IfOk result (λ heard. Hears (come (F.contents self.old.files) self.old.name.items self.old.rest.items self.old.at) heard line.new.items (come (F.contents self.new.files) self.new.name.items self.new.rest.items self.new.at)) }
         ensures sink { self.new.sink ≡ self.old.sink }
@@ -134,7 +147,7 @@ impl<F: Files + Drop, K: Sink + Drop> FilePeer<F, K> {
         ensures contents { F.contents self.new.files ≡ F.contents self.old.files }
         ensures reads { F.faults self.old.files self.old.name.items ≤ F.faults self.new.files self.old.name.items }
     {
-        while feed_at(&self.rest) == self.rest.len() && self.rest.len() <= LONGEST_LINE {
+        while self.is_open() {
             if !self.read_more()? {
                 return Ok(Heard::Over);
             }
@@ -170,6 +183,7 @@ impl<F: Files + Drop, K: Sink + Drop> Peer for FilePeer<F, K> {
         Ok(())
     }
 
+    #[tactic(auto, using(crate::proofs::Saying::front_on_err))]
     fn turn(&mut self, said: &[u8], line: &mut Vec<u8>) -> Result<Heard, PeerError> {
         write_all(&mut self.sink, said)?;
         self.hear(line)

@@ -10,18 +10,27 @@ pub(crate) fn words_of(
     line: &[u8],
     number: u64,
 ) -> Result<Option<Vec<&[u8]>>, WantOfMemory> {
-    let mut words = cut(alloc, line, b' ')?;
+    let words = cut(alloc, line, b' ')?;
     let own = decimal(alloc, number)?;
-    if words[0] != own.as_bytes() {
-        return Ok(None);
+    match words.as_slice() {
+        [first, behind @ ..] if *first == own.as_bytes() => {
+            Ok(Some(Vec::from_slice(alloc, behind)?))
+        }
+        _ => Ok(None),
     }
-    words.remove(0);
-    Ok(Some(words))
 }
 
 /// Whether each word has the form of a tag, which is that of a name.
 fn are_tags(words: &[&[u8]]) -> bool {
     words.iter().all(|word| is_name(word))
+}
+
+/// Whether an answer may be given: AddDevice is not pended.
+fn is_taken(may_pend: bool, answer: Answer) -> bool {
+    match answer {
+        Answer::Pend => may_pend,
+        _ => true,
+    }
 }
 
 /// What a driver answers, and the tags behind it.
@@ -38,19 +47,18 @@ pub(crate) fn reply_of(
     number: u64,
     may_pend: bool,
 ) -> Result<Option<Reply<'_>>, WantOfMemory> {
-    let Some(mut words) = words_of(alloc, line, number)? else {
+    let Some(words) = words_of(alloc, line, number)? else {
         return Ok(None);
     };
-    if words.is_empty() || !are_tags(&words) {
+    let [word, tags @ ..] = words.as_slice() else {
         return Ok(None);
-    }
-    match answer_of(words.remove(0)) {
-        None => Ok(None),
-        Some(Answer::Pend) if !may_pend => Ok(None),
-        Some(answer) => Ok(Some(Reply {
-            answer,
-            tags: words,
-        })),
+    };
+    match answer_of(word) {
+        Some(answer) if is_taken(may_pend, answer) && are_tags(tags) => {
+            let tags = Vec::from_slice(alloc, tags)?;
+            Ok(Some(Reply { answer, tags }))
+        }
+        _ => Ok(None),
     }
 }
 
@@ -87,7 +95,7 @@ pub(crate) fn polled_of(
     line: &[u8],
     number: u64,
 ) -> Result<Option<Polled<'_>>, WantOfMemory> {
-    let Some(mut words) = words_of(alloc, line, number)? else {
+    let Some(words) = words_of(alloc, line, number)? else {
         return Ok(None);
     };
     match words.as_slice() {

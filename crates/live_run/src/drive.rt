@@ -1,10 +1,14 @@
 //! The loop of a live run.
+ghost use Rattle.std.specs.Prelude.{◌≡◌, ◌≤◌, ◌<◌, ◌+◌, ◌^◌, true, OnOk};
+ghost use Rattle.pnp_model.specs.Machine.{IsQuiet};
+ghost use Rattle.live_model.specs.Moves.{HasFewIds};
+
 use crate::live::LiveDrivers;
+use crate::machine::Machine;
 use crate::step::take_step;
 use crate::stop::{DriveError, Ended, Stop};
 use crate::talk::{Talk, push_numbered};
 use crate::trail::Trail;
-use free_run::FreeRun;
 use live_io::Peer;
 use pnp_labels::Event;
 use script_reader::{Next, Reader};
@@ -13,114 +17,158 @@ use std::alloc::Global;
 /// The most events that happen, the script's and those that are heard: this project's own.
 const MOST_EVENTS: u64 = 16_777_216;
 
+/// The most IDs of a sort: those of a line of a script.
+const MOST_IDS: u64 = 64;
+
+/// Whether an event has at most 64 IDs of each sort, as each event of a script has.
+fn has_few_ids(event: &Event) -> bool
+    ensures { result ≡ true → HasFewIds event.now }
+{
+    match event {
+        Event::Plug {
+            parent: _,
+            path: _,
+            hw,
+            compat,
+            reqs: _,
+        } => hw.len() <= MOST_IDS && compat.len() <= MOST_IDS,
+        _ => true,
+    }
+}
+
 /// The machine steps until no step is next.
-fn settle<P: Peer>(
+fn settle<M: Machine, P: Peer>(
     alloc: Global,
-    run: &mut FreeRun,
+    machine: &mut M,
     live: &LiveDrivers,
     trail: &mut Trail,
     talk: &mut Talk,
     peer: &mut P,
-) -> Result<(), Stop> {
-    'steps: while take_step(alloc, run, live, trail, talk, peer)? {}
-    Ok(())
+) -> Result<(), Stop>
+    ensures quiet { OnOk result (IsQuiet (M.settings machine.new) (M.state machine.new)) }
+    ensures same { M.settings machine.new ≡ M.settings machine.old }
+    ensures events { M.events machine.new ≡ M.events machine.old }
+{
+    for _ in 0..u64::MAX {
+        if !take_step(alloc, machine, live, trail, talk, peer)? {
+            return Ok(());
+        }
+    }
+    Err(Stop::Fault(DriveError::TooLarge))
 }
 
 /// An event happens, and the machine steps until no step is next.
-fn happen<P: Peer>(
+fn happen<M: Machine, P: Peer>(
     alloc: Global,
-    run: &mut FreeRun,
+    machine: &mut M,
     event: Event,
     live: &LiveDrivers,
     trail: &mut Trail,
     talk: &mut Talk,
     peer: &mut P,
-) -> Result<(), Stop> {
-    let label = run.apply(event)?;
+) -> Result<(), Stop>
+    requires quiet { IsQuiet (M.settings machine.old) (M.state machine.old) }
+    requires events { M.events machine.old < 2 ^ 24 }
+    ensures quiet { OnOk result (IsQuiet (M.settings machine.new) (M.state machine.new)) }
+    ensures events { OnOk result (M.events machine.new ≡ M.events machine.old + 1) }
+{
+    if !has_few_ids(&event) {
+        drop(event);
+        return Err(Stop::Fault(DriveError::TooLarge));
+    }
+    let label = machine.apply(event)?;
     talk.add_label(&label, peer)?;
     trail.follow(alloc, live, &label)?;
-    settle(alloc, run, live, trail, talk, peer)
-}
-
-/// Whether a request that waits at a live driver completes: the event; none where none waits, or none completes.
-fn completion<P: Peer>(
-    alloc: Global,
-    trail: &Trail,
-    talk: &mut Talk,
-    peer: &mut P,
-) -> Result<Option<Event>, Stop> {
-    if trail.waits() {
-        talk.poll(alloc, trail, peer)
-    } else {
-        Ok(None)
-    }
+    settle(alloc, machine, live, trail, talk, peer)
 }
 
 /// The end of the output is said.
-fn end<P: Peer>(alloc: Global, run: &FreeRun, talk: &mut Talk, peer: &mut P) -> Result<(), Stop> {
-    let ending = run.ending(alloc)?;
+fn end<M: Machine, P: Peer>(
+    alloc: Global,
+    machine: &M,
+    talk: &mut Talk,
+    peer: &mut P,
+) -> Result<(), Stop> {
+    let ending = machine.ending(alloc)?;
     talk.said.extend_from_slice(&ending)?;
     talk.flush(peer)?;
     Ok(())
 }
 
-/// What the script gives next, at a quiet state: an event; or how the run ends, which was said.
-fn next_event<P: Peer>(
+/// What comes next at a quiet state.
+#[derive(Drop)]
+enum Happening {
+    /// This event happens.
+    Event(Event),
+    /// The run has ended so, and that was said.
+    End(Ended),
+}
+
+/// What the script gives next, at a quiet state.
+fn next_of_script<M: Machine, P: Peer>(
     alloc: Global,
-    run: &FreeRun,
+    machine: &M,
     reader: &mut Reader,
     talk: &mut Talk,
     peer: &mut P,
-) -> Result<Result<Event, Ended>, Stop> {
+) -> Result<Happening, Stop> {
     match reader.next_event()? {
-        Next::Event(event) => Ok(Ok(event)),
+        Next::Event(event) => Ok(Happening::Event(event)),
         Next::Bad { line } => {
             push_numbered(&mut talk.said, b"script error line ", line)?;
-            end(alloc, run, talk, peer)?;
-            Ok(Err(Ended::BadLine))
+            end(alloc, machine, talk, peer)?;
+            Ok(Happening::End(Ended::BadLine))
         }
         // a reader that was finished needs no more
         Next::End | Next::NeedMore => {
-            end(alloc, run, talk, peer)?;
-            Ok(Err(Ended::Done))
+            end(alloc, machine, talk, peer)?;
+            Ok(Happening::End(Ended::Done))
         }
     }
 }
 
-/// What happens next, at a quiet state: a request that waits at a live driver completes, or the next line of the script; or how the run ends.
-fn next_happening<P: Peer>(
+/// What comes next, at a quiet state: a request that waits at a live driver completes, or the next line of the script happens.
+fn next_happening<M: Machine, P: Peer>(
     alloc: Global,
-    run: &FreeRun,
+    machine: &M,
     reader: &mut Reader,
     trail: &Trail,
     talk: &mut Talk,
     peer: &mut P,
-) -> Result<Result<Event, Ended>, Stop> {
-    match completion(alloc, trail, talk, peer)? {
-        Some(event) => Ok(Ok(event)),
-        None => next_event(alloc, run, reader, talk, peer),
+) -> Result<Happening, Stop> {
+    if trail.waits() {
+        if let Some(event) = talk.poll(alloc, trail, peer)? {
+            return Ok(Happening::Event(event));
+        }
     }
+    next_of_script(alloc, machine, reader, talk, peer)
 }
 
 /// The events happen, one after another, to the end.
-fn play<P: Peer>(
+fn play<M: Machine, P: Peer>(
     alloc: Global,
-    run: &mut FreeRun,
+    machine: &mut M,
     reader: &mut Reader,
     live: &LiveDrivers,
     trail: &mut Trail,
     talk: &mut Talk,
     peer: &mut P,
-) -> Result<Ended, Stop> {
+) -> Result<Ended, Stop>
+    requires { M.events machine.old ≡ 0 }
+{
+    settle(alloc, machine, live, trail, talk, peer)?;
     for _ in 0..MOST_EVENTS {
-        match next_happening(alloc, run, reader, trail, talk, peer)? {
-            Ok(event) => happen(alloc, run, event, live, trail, talk, peer)?,
-            Err(ended) => return Ok(ended),
+        match next_happening(alloc, machine, reader, trail, talk, peer)? {
+            Happening::Event(event) => happen(alloc, machine, event, live, trail, talk, peer)?,
+            Happening::End(ended) => return Ok(ended),
         }
     }
-    match next_happening(alloc, run, reader, trail, talk, peer)? {
-        Ok(_) => Err(Stop::Fault(DriveError::TooLarge)),
-        Err(ended) => Ok(ended),
+    match next_happening(alloc, machine, reader, trail, talk, peer)? {
+        Happening::Event(event) => {
+            drop(event);
+            Err(Stop::Fault(DriveError::TooLarge))
+        }
+        Happening::End(ended) => Ok(ended),
     }
 }
 
@@ -155,28 +203,20 @@ pub fn greet<P: Peer>(alloc: Global, peer: &mut P) -> Result<Option<Ended>, Driv
     }
 }
 
-/// Runs a script, which was fed whole, over drivers of which some are live, against the other side, which was greeted.
-pub fn drive<P: Peer>(
+/// Runs a script, which was fed whole, on a machine of which some drivers are live, against the other side, which was greeted. Condition: no
+/// event happened to the machine.
+pub fn drive<M: Machine, P: Peer>(
     alloc: Global,
-    run: FreeRun,
-    reader: Reader,
+    machine: &mut M,
+    reader: &mut Reader,
     live: &LiveDrivers,
     peer: &mut P,
-) -> Result<Ended, DriveError> {
-    let mut run = run;
-    let mut reader = reader;
+) -> Result<Ended, DriveError>
+    requires { M.events machine.old ≡ 0 }
+{
     let mut trail = Trail::new(alloc);
     let mut talk = Talk::new(alloc);
-    let ended = play(
-        alloc,
-        &mut run,
-        &mut reader,
-        live,
-        &mut trail,
-        &mut talk,
-        peer,
-    );
-    drop(run);
-    drop(reader);
+    let ended = play(alloc, machine, reader, live, &mut trail, &mut talk, peer);
+    drop(trail);
     ended_by(ended, &mut talk, peer)
 }

@@ -5,6 +5,7 @@ mod answers;
 mod asks;
 mod drive;
 mod live;
+mod machine;
 mod poll;
 mod probe;
 mod step;
@@ -12,6 +13,8 @@ mod stop;
 mod talk;
 mod trail;
 
+pub use asks::{LiveAsk, ask_words};
 pub use drive::{drive, greet};
 pub use live::LiveDrivers;
+pub use machine::Machine;
 pub use stop::{DriveError, Ended};

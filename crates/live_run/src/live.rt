@@ -48,7 +48,7 @@ impl LiveDrivers {
     }
 
     /// Whether a driver of this name is live. Cost: the number of names.
-    pub(crate) fn has(&self, name: &Text) -> bool {
+    pub fn has(&self, name: &Text) -> bool {
         self.names.iter().any(|own| own.same(name))
     }
 }

@@ -1,29 +1,36 @@
 //! One step of a live run.
-use crate::asks::{ask_words, live_ask};
+ghost use Rattle.std.specs.Prelude.{◌≡◌, false, None, IfOk, OnOk};
+ghost use Rattle.pnp_model.specs.Machine.{IsQuiet};
+
+use crate::asks::ask_words;
 use crate::live::LiveDrivers;
+use crate::machine::Machine;
 use crate::stop::Stop;
 use crate::talk::Talk;
 use crate::trail::Trail;
 use device_ids::Text;
-use free_run::FreeRun;
 use live_io::Peer;
 use pnp_labels::{DevState, Label};
 use std::alloc::Global;
 
 /// The label of the next step, in which a live driver answers what is heard and another one by its book; none where no step is next.
-fn next_label<P: Peer>(
+fn next_label<M: Machine, P: Peer>(
     alloc: Global,
-    run: &mut FreeRun,
+    machine: &mut M,
     live: &LiveDrivers,
     talk: &mut Talk,
     peer: &mut P,
-) -> Result<Option<Label>, Stop> {
-    match live_ask(alloc, run, live)? {
+) -> Result<Option<Label>, Stop>
+    ensures quiet { IfOk result (λ label. label ≡ None → IsQuiet (M.settings machine.new) (M.state machine.new)) }
+    ensures same { M.settings machine.new ≡ M.settings machine.old }
+    ensures events { M.events machine.new ≡ M.events machine.old }
+{
+    match machine.live_ask(alloc, live)? {
         Some(ask) => {
             let answer = talk.ask_driver(alloc, &ask.words, &ask.driver, ask.may_pend, peer)?;
-            Ok(run.step(answer)?)
+            Ok(machine.step_by(answer)?)
         }
-        None => Ok(run.step_own()?),
+        None => Ok(machine.step_own()?),
     }
 }
 
@@ -47,15 +54,19 @@ fn probe<P: Peer>(
 
 /// Makes the next step, and answers whether there was one: its line is to be said, and, where live drivers are probed, they are behind a
 /// line of a state.
-pub(crate) fn take_step<P: Peer>(
+pub(crate) fn take_step<M: Machine, P: Peer>(
     alloc: Global,
-    run: &mut FreeRun,
+    machine: &mut M,
     live: &LiveDrivers,
     trail: &mut Trail,
     talk: &mut Talk,
     peer: &mut P,
-) -> Result<bool, Stop> {
-    let Some(label) = next_label(alloc, run, live, talk, peer)? else {
+) -> Result<bool, Stop>
+    ensures quiet { IfOk result (λ more. more ≡ false → IsQuiet (M.settings machine.new) (M.state machine.new)) }
+    ensures same { M.settings machine.new ≡ M.settings machine.old }
+    ensures events { M.events machine.new ≡ M.events machine.old }
+{
+    let Some(label) = next_label(alloc, machine, live, talk, peer)? else {
         return Ok(false);
     };
     talk.add_label(&label, peer)?;
