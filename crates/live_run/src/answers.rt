@@ -89,6 +89,34 @@ fn path_of(alloc: Global, word: &[u8]) -> Result<Option<InstancePath>, WantOfMem
     }
 }
 
+/// Whether a word is this one.
+fn is_word(word: &[u8], own: &[u8]) -> bool {
+    word == own
+}
+
+/// The completion that these words and tags say, if they say one.
+fn completion_of<'a>(
+    alloc: Global,
+    path: &[u8],
+    minor: &[u8],
+    ok: &[u8],
+    tags: &[&'a [u8]],
+) -> Result<Option<Polled<'a>>, WantOfMemory> {
+    let (Some(minor), Some(ok)) = (minor_of(minor), ok_of(ok)) else {
+        return Ok(None);
+    };
+    let tags = Vec::from_slice(alloc, tags)?;
+    match path_of(alloc, path)? {
+        Some(path) => Ok(Some(Polled::Complete(Completion {
+            path,
+            minor,
+            ok,
+            tags,
+        }))),
+        None => Ok(None),
+    }
+}
+
 /// What a line answers to a poll of this number; none where it is no answer to it.
 pub(crate) fn polled_of(
     alloc: Global,
@@ -99,21 +127,9 @@ pub(crate) fn polled_of(
         return Ok(None);
     };
     match words.as_slice() {
-        [b"none"] => Ok(Some(Polled::None)),
-        [b"complete", path, minor, ok, tags @ ..] if are_tags(tags) => {
-            let (Some(minor), Some(ok)) = (minor_of(minor), ok_of(ok)) else {
-                return Ok(None);
-            };
-            let Some(path) = path_of(alloc, path)? else {
-                return Ok(None);
-            };
-            let tags = Vec::from_slice(alloc, tags)?;
-            Ok(Some(Polled::Complete(Completion {
-                path,
-                minor,
-                ok,
-                tags,
-            })))
+        [word] if is_word(word, b"none") => Ok(Some(Polled::None)),
+        [word, path, minor, ok, tags @ ..] if is_word(word, b"complete") && are_tags(tags) => {
+            completion_of(alloc, path, minor, ok, tags)
         }
         _ => Ok(None),
     }

@@ -1,5 +1,7 @@
 //! The loop of a live run.
-ghost use Rattle.std.specs.Prelude.{◌≡◌, ◌≤◌, ◌<◌, ◌+◌, ◌^◌, true, OnOk};
+ghost use Rattle.pnp_io.specs.Outside.{Rose};
+ghost use Rattle.live_run.specs.declared.stop.DriveError.TheVariants.{ReadFault, WriteFault};
+ghost use Rattle.std.specs.Prelude.{◌+◌, ◌<◌, ◌^◌, ◌≡◌, ◌≤◌, IsErrOf, OnOk, true};
 ghost use Rattle.pnp_model.specs.Machine.{IsQuiet};
 ghost use Rattle.live_model.specs.Moves.{HasFewIds};
 
@@ -37,6 +39,7 @@ fn has_few_ids(event: &Event) -> bool
 }
 
 /// The machine steps until no step is next.
+#[tactic(auto, using(crate::proofs::Faults::rose_behind))]
 fn settle<M: Machine, P: Peer>(
     alloc: Global,
     machine: &mut M,
@@ -48,8 +51,12 @@ fn settle<M: Machine, P: Peer>(
     ensures quiet { OnOk result (IsQuiet (M.settings machine.new) (M.state machine.new)) }
     ensures same { M.settings machine.new ≡ M.settings machine.old }
     ensures events { M.events machine.new ≡ M.events machine.old }
+    ensures write_fault { IsErrOf result (Stop.Fault WriteFault) → Rose (P.write_faults peer.old) (P.write_faults peer.new) }
+    ensures read_fault { IsErrOf result (Stop.Fault ReadFault) → Rose (P.read_faults peer.old) (P.read_faults peer.new) }
+    ensures writes { P.write_faults peer.old ≤ P.write_faults peer.new }
+    ensures reads { P.read_faults peer.old ≤ P.read_faults peer.new }
 {
-    for _ in 0..u64::MAX {
+    'steps: for _ in 0..u64::MAX {
         if !take_step(alloc, machine, live, trail, talk, peer)? {
             return Ok(());
         }
@@ -58,6 +65,7 @@ fn settle<M: Machine, P: Peer>(
 }
 
 /// An event happens, and the machine steps until no step is next.
+#[tactic(auto, using(crate::proofs::Faults::rose_behind))]
 fn happen<M: Machine, P: Peer>(
     alloc: Global,
     machine: &mut M,
@@ -71,6 +79,10 @@ fn happen<M: Machine, P: Peer>(
     requires events { M.events machine.old < 2 ^ 24 }
     ensures quiet { OnOk result (IsQuiet (M.settings machine.new) (M.state machine.new)) }
     ensures events { OnOk result (M.events machine.new ≡ M.events machine.old + 1) }
+    ensures write_fault { IsErrOf result (Stop.Fault WriteFault) → Rose (P.write_faults peer.old) (P.write_faults peer.new) }
+    ensures read_fault { IsErrOf result (Stop.Fault ReadFault) → Rose (P.read_faults peer.old) (P.read_faults peer.new) }
+    ensures writes { P.write_faults peer.old ≤ P.write_faults peer.new }
+    ensures reads { P.read_faults peer.old ≤ P.read_faults peer.new }
 {
     if !has_few_ids(&event) {
         drop(event);
@@ -83,12 +95,18 @@ fn happen<M: Machine, P: Peer>(
 }
 
 /// The end of the output is said.
+#[tactic(auto, using(crate::proofs::Faults::rose_behind))]
 fn end<M: Machine, P: Peer>(
     alloc: Global,
     machine: &M,
     talk: &mut Talk,
     peer: &mut P,
-) -> Result<(), Stop> {
+) -> Result<(), Stop>
+    ensures write_fault { IsErrOf result (Stop.Fault WriteFault) → Rose (P.write_faults peer.old) (P.write_faults peer.new) }
+    ensures read_fault { IsErrOf result (Stop.Fault ReadFault) → Rose (P.read_faults peer.old) (P.read_faults peer.new) }
+    ensures writes { P.write_faults peer.old ≤ P.write_faults peer.new }
+    ensures reads { P.read_faults peer.old ≤ P.read_faults peer.new }
+{
     let ending = machine.ending(alloc)?;
     talk.said.extend_from_slice(&ending)?;
     talk.flush(peer)?;
@@ -105,13 +123,19 @@ enum Happening {
 }
 
 /// What the script gives next, at a quiet state.
+#[tactic(auto, using(crate::proofs::Faults::rose_behind))]
 fn next_of_script<M: Machine, P: Peer>(
     alloc: Global,
     machine: &M,
     reader: &mut Reader,
     talk: &mut Talk,
     peer: &mut P,
-) -> Result<Happening, Stop> {
+) -> Result<Happening, Stop>
+    ensures write_fault { IsErrOf result (Stop.Fault WriteFault) → Rose (P.write_faults peer.old) (P.write_faults peer.new) }
+    ensures read_fault { IsErrOf result (Stop.Fault ReadFault) → Rose (P.read_faults peer.old) (P.read_faults peer.new) }
+    ensures writes { P.write_faults peer.old ≤ P.write_faults peer.new }
+    ensures reads { P.read_faults peer.old ≤ P.read_faults peer.new }
+{
     match reader.next_event()? {
         Next::Event(event) => Ok(Happening::Event(event)),
         Next::Bad { line } => {
@@ -128,6 +152,7 @@ fn next_of_script<M: Machine, P: Peer>(
 }
 
 /// What comes next, at a quiet state: a request that waits at a live driver completes, or the next line of the script happens.
+#[tactic(auto, using(crate::proofs::Faults::rose_behind))]
 fn next_happening<M: Machine, P: Peer>(
     alloc: Global,
     machine: &M,
@@ -135,7 +160,12 @@ fn next_happening<M: Machine, P: Peer>(
     trail: &Trail,
     talk: &mut Talk,
     peer: &mut P,
-) -> Result<Happening, Stop> {
+) -> Result<Happening, Stop>
+    ensures write_fault { IsErrOf result (Stop.Fault WriteFault) → Rose (P.write_faults peer.old) (P.write_faults peer.new) }
+    ensures read_fault { IsErrOf result (Stop.Fault ReadFault) → Rose (P.read_faults peer.old) (P.read_faults peer.new) }
+    ensures writes { P.write_faults peer.old ≤ P.write_faults peer.new }
+    ensures reads { P.read_faults peer.old ≤ P.read_faults peer.new }
+{
     if trail.waits() {
         if let Some(event) = talk.poll(alloc, trail, peer)? {
             return Ok(Happening::Event(event));
@@ -145,6 +175,7 @@ fn next_happening<M: Machine, P: Peer>(
 }
 
 /// The events happen, one after another, to the end.
+#[tactic(auto, using(crate::proofs::Faults::rose_behind))]
 fn play<M: Machine, P: Peer>(
     alloc: Global,
     machine: &mut M,
@@ -154,14 +185,20 @@ fn play<M: Machine, P: Peer>(
     talk: &mut Talk,
     peer: &mut P,
 ) -> Result<Ended, Stop>
-    requires { M.events machine.old ≡ 0 }
+    requires events { M.events machine.old ≡ 0 }
+    ensures write_fault { IsErrOf result (Stop.Fault WriteFault) → Rose (P.write_faults peer.old) (P.write_faults peer.new) }
+    ensures read_fault { IsErrOf result (Stop.Fault ReadFault) → Rose (P.read_faults peer.old) (P.read_faults peer.new) }
+    ensures writes { P.write_faults peer.old ≤ P.write_faults peer.new }
+    ensures reads { P.read_faults peer.old ≤ P.read_faults peer.new }
 {
     settle(alloc, machine, live, trail, talk, peer)?;
-    for _ in 0..MOST_EVENTS {
+    let mut events = 0;
+    'events: while events < MOST_EVENTS {
         match next_happening(alloc, machine, reader, trail, talk, peer)? {
             Happening::Event(event) => happen(alloc, machine, event, live, trail, talk, peer)?,
             Happening::End(ended) => return Ok(ended),
         }
+        events += 1;
     }
     match next_happening(alloc, machine, reader, trail, talk, peer)? {
         Happening::Event(event) => {
@@ -195,7 +232,13 @@ fn ended_by<P: Peer>(
 }
 
 /// Hears the first line of the answers, before anything is said: none where it is `live 1`; else how the run ended.
-pub fn greet<P: Peer>(alloc: Global, peer: &mut P) -> Result<Option<Ended>, DriveError> {
+#[tactic(auto, using(crate::proofs::Faults::rose_behind))]
+pub fn greet<P: Peer>(alloc: Global, peer: &mut P) -> Result<Option<Ended>, DriveError>
+    ensures write_fault { IsErrOf result WriteFault → Rose (P.write_faults peer.old) (P.write_faults peer.new) }
+    ensures read_fault { IsErrOf result ReadFault → Rose (P.read_faults peer.old) (P.read_faults peer.new) }
+    ensures writes { P.write_faults peer.old ≤ P.write_faults peer.new }
+    ensures reads { P.read_faults peer.old ≤ P.read_faults peer.new }
+{
     let mut talk = Talk::new(alloc);
     match talk.hear_hello(peer) {
         Ok(()) => Ok(None),
@@ -205,6 +248,7 @@ pub fn greet<P: Peer>(alloc: Global, peer: &mut P) -> Result<Option<Ended>, Driv
 
 /// Runs a script, which was fed whole, on a machine of which some drivers are live, against the other side, which was greeted. Condition: no
 /// event happened to the machine.
+#[tactic(auto, using(crate::proofs::Faults::rose_behind))]
 pub fn drive<M: Machine, P: Peer>(
     alloc: Global,
     machine: &mut M,
@@ -212,7 +256,11 @@ pub fn drive<M: Machine, P: Peer>(
     live: &LiveDrivers,
     peer: &mut P,
 ) -> Result<Ended, DriveError>
-    requires { M.events machine.old ≡ 0 }
+    requires events { M.events machine.old ≡ 0 }
+    ensures write_fault { IsErrOf result WriteFault → Rose (P.write_faults peer.old) (P.write_faults peer.new) }
+    ensures read_fault { IsErrOf result ReadFault → Rose (P.read_faults peer.old) (P.read_faults peer.new) }
+    ensures writes { P.write_faults peer.old ≤ P.write_faults peer.new }
+    ensures reads { P.read_faults peer.old ≤ P.read_faults peer.new }
 {
     let mut trail = Trail::new(alloc);
     let mut talk = Talk::new(alloc);

@@ -1,4 +1,8 @@
 //! Whether drivers take requests of programs as they may.
+ghost use Rattle.std.specs.Prelude.{◌≡◌, ◌≤◌, IsErrOf};
+ghost use Rattle.pnp_io.specs.Outside.{Rose};
+ghost use Rattle.live_run.specs.declared.stop.DriveError.TheVariants.{ReadFault, WriteFault};
+
 use crate::answers::reply_of;
 use crate::stop::Stop;
 use crate::talk::{Talk, push_broke, push_tags};
@@ -38,6 +42,7 @@ fn misfit(alloc: Global, state: DevState, answer: Answer) -> Result<Vec<u8>, Wan
 
 impl Talk {
     /// Asks a driver what it does with a create request now; which rules it broke is to be said.
+    #[tactic(auto, using(crate::proofs::Faults::rose_behind))]
     pub(crate) fn probe_driver<P: Peer>(
         &mut self,
         alloc: Global,
@@ -45,7 +50,12 @@ impl Talk {
         driver: &Text,
         state: DevState,
         peer: &mut P,
-    ) -> Result<(), Stop> {
+    ) -> Result<(), Stop>
+        ensures write_fault { IsErrOf result (Stop.Fault WriteFault) → Rose (P.write_faults peer.old) (P.write_faults peer.new) }
+        ensures read_fault { IsErrOf result (Stop.Fault ReadFault) → Rose (P.read_faults peer.old) (P.read_faults peer.new) }
+        ensures writes { P.write_faults peer.old ≤ P.write_faults peer.new }
+        ensures reads { P.read_faults peer.old ≤ P.read_faults peer.new }
+    {
         self.ask(words, peer)?;
         let Some(reply) = reply_of(alloc, &self.line, self.asks, true)? else {
             return Err(Stop::Bad);

@@ -1,5 +1,7 @@
 //! One step of a live run.
-ghost use Rattle.std.specs.Prelude.{◌≡◌, false, None, IfOk, OnOk};
+ghost use Rattle.pnp_io.specs.Outside.{Rose};
+ghost use Rattle.live_run.specs.declared.stop.DriveError.TheVariants.{ReadFault, WriteFault};
+ghost use Rattle.std.specs.Prelude.{◌≡◌, ◌≤◌, IfOk, IsErrOf, None, OnOk, false};
 ghost use Rattle.pnp_model.specs.Machine.{IsQuiet};
 
 use crate::asks::ask_words;
@@ -14,6 +16,7 @@ use pnp_labels::{DevState, Label};
 use std::alloc::Global;
 
 /// The label of the next step, in which a live driver answers what is heard and another one by its book; none where no step is next.
+#[tactic(auto, using(crate::proofs::Faults::rose_behind))]
 fn next_label<M: Machine, P: Peer>(
     alloc: Global,
     machine: &mut M,
@@ -24,6 +27,10 @@ fn next_label<M: Machine, P: Peer>(
     ensures quiet { IfOk result (λ label. label ≡ None → IsQuiet (M.settings machine.new) (M.state machine.new)) }
     ensures same { M.settings machine.new ≡ M.settings machine.old }
     ensures events { M.events machine.new ≡ M.events machine.old }
+    ensures write_fault { IsErrOf result (Stop.Fault WriteFault) → Rose (P.write_faults peer.old) (P.write_faults peer.new) }
+    ensures read_fault { IsErrOf result (Stop.Fault ReadFault) → Rose (P.read_faults peer.old) (P.read_faults peer.new) }
+    ensures writes { P.write_faults peer.old ≤ P.write_faults peer.new }
+    ensures reads { P.read_faults peer.old ≤ P.read_faults peer.new }
 {
     match machine.live_ask(alloc, live)? {
         Some(ask) => {
@@ -35,6 +42,7 @@ fn next_label<M: Machine, P: Peer>(
 }
 
 /// Asks each live driver of a device that has come to a state whether it takes a create request, the lowest first.
+#[tactic(auto, using(crate::proofs::Faults::rose_behind))]
 fn probe<P: Peer>(
     alloc: Global,
     path: &Text,
@@ -42,7 +50,12 @@ fn probe<P: Peer>(
     trail: &Trail,
     talk: &mut Talk,
     peer: &mut P,
-) -> Result<(), Stop> {
+) -> Result<(), Stop>
+    ensures write_fault { IsErrOf result (Stop.Fault WriteFault) → Rose (P.write_faults peer.old) (P.write_faults peer.new) }
+    ensures read_fault { IsErrOf result (Stop.Fault ReadFault) → Rose (P.read_faults peer.old) (P.read_faults peer.new) }
+    ensures writes { P.write_faults peer.old ≤ P.write_faults peer.new }
+    ensures reads { P.read_faults peer.old ≤ P.read_faults peer.new }
+{
     for at in 0..trail.attached() {
         if let Some(driver) = trail.attached_to(path, at) {
             let words = ask_words(alloc, b"probe", path.bytes(), driver)?;
@@ -54,6 +67,7 @@ fn probe<P: Peer>(
 
 /// Makes the next step, and answers whether there was one: its line is to be said, and, where live drivers are probed, they are behind a
 /// line of a state.
+#[tactic(auto, using(crate::proofs::Faults::rose_behind))]
 pub(crate) fn take_step<M: Machine, P: Peer>(
     alloc: Global,
     machine: &mut M,
@@ -65,6 +79,10 @@ pub(crate) fn take_step<M: Machine, P: Peer>(
     ensures quiet { IfOk result (λ more. more ≡ false → IsQuiet (M.settings machine.new) (M.state machine.new)) }
     ensures same { M.settings machine.new ≡ M.settings machine.old }
     ensures events { M.events machine.new ≡ M.events machine.old }
+    ensures write_fault { IsErrOf result (Stop.Fault WriteFault) → Rose (P.write_faults peer.old) (P.write_faults peer.new) }
+    ensures read_fault { IsErrOf result (Stop.Fault ReadFault) → Rose (P.read_faults peer.old) (P.read_faults peer.new) }
+    ensures writes { P.write_faults peer.old ≤ P.write_faults peer.new }
+    ensures reads { P.read_faults peer.old ≤ P.read_faults peer.new }
 {
     let Some(label) = next_label(alloc, machine, live, talk, peer)? else {
         return Ok(false);

@@ -39,18 +39,38 @@ pub(crate) enum Stop {
 }
 
 impl From<AllocError> for Stop {
+    ghost use Rattle.std.specs.Prelude.{◌≡◌};
+    ghost use Rattle.live_run.specs.declared.stop.DriveError.TheVariants.{WantOfMemory};
+    ghost use Rattle.live_run.specs.declared.stop.Stop.TheVariants.{Fault};
+
+    ghost from_gives = { λ _ e. e ≡ Fault WantOfMemory };
+
     fn from(_: AllocError) -> Self {
         Stop::Fault(DriveError::WantOfMemory)
     }
 }
 
 impl From<PeerError> for Stop {
+    ghost use Rattle.std.specs.Prelude.{◌≡◌};
+    ghost use Rattle.live_run.specs.Errors.{stop_of};
+
+    ghost from_gives = { λ from e. e ≡ stop_of from };
+
     fn from(error: PeerError) -> Self {
-        Stop::Fault(DriveError::from(error))
+        match error {
+            PeerError::ReadFault => Stop::Fault(DriveError::ReadFault),
+            PeerError::WriteFault => Stop::Fault(DriveError::WriteFault),
+            PeerError::WantOfMemory => Stop::Fault(DriveError::WantOfMemory),
+        }
     }
 }
 
 impl From<PeerError> for DriveError {
+    ghost use Rattle.std.specs.Prelude.{◌≡◌};
+    ghost use Rattle.live_run.specs.Errors.{drive_error};
+
+    ghost from_gives = { λ from e. e ≡ drive_error from };
+
     fn from(error: PeerError) -> Self {
         match error {
             PeerError::ReadFault => DriveError::ReadFault,
@@ -61,6 +81,11 @@ impl From<PeerError> for DriveError {
 }
 
 impl From<AllocError> for DriveError {
+    ghost use Rattle.std.specs.Prelude.{◌≡◌};
+    ghost use Rattle.live_run.specs.declared.stop.DriveError.TheVariants.{WantOfMemory};
+
+    ghost from_gives = { λ _ e. e ≡ WantOfMemory };
+
     fn from(_: AllocError) -> Self {
         DriveError::WantOfMemory
     }

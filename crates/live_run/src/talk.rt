@@ -1,4 +1,8 @@
 //! What is said, and what is heard.
+ghost use Rattle.std.specs.Prelude.{◌≡◌, ◌≤◌, IsErrOf};
+ghost use Rattle.pnp_io.specs.Outside.{Rose};
+ghost use Rattle.live_run.specs.declared.stop.DriveError.TheVariants.{ReadFault, WriteFault};
+
 use crate::answers::reply_of;
 use crate::stop::Stop;
 use device_ids::{Text, WantOfMemory};
@@ -102,7 +106,13 @@ impl Talk {
     }
 
     /// Says all that is to be said, and hears a line.
-    fn turn<P: Peer>(&mut self, peer: &mut P) -> Result<(), Stop> {
+    #[tactic(auto, using(crate::proofs::Faults::rose_behind))]
+    fn turn<P: Peer>(&mut self, peer: &mut P) -> Result<(), Stop>
+        ensures write_fault { IsErrOf result (Stop.Fault WriteFault) → Rose (P.write_faults peer.old) (P.write_faults peer.new) }
+        ensures read_fault { IsErrOf result (Stop.Fault ReadFault) → Rose (P.read_faults peer.old) (P.read_faults peer.new) }
+        ensures writes { P.write_faults peer.old ≤ P.write_faults peer.new }
+        ensures reads { P.read_faults peer.old ≤ P.read_faults peer.new }
+    {
         let heard = peer.turn(&self.said, &mut self.line)?;
         self.said.clear();
         match heard {
@@ -113,7 +123,13 @@ impl Talk {
     }
 
     /// Hears the first line, before anything is said.
-    pub(crate) fn hear_hello<P: Peer>(&mut self, peer: &mut P) -> Result<(), Stop> {
+    #[tactic(auto, using(crate::proofs::Faults::rose_behind))]
+    pub(crate) fn hear_hello<P: Peer>(&mut self, peer: &mut P) -> Result<(), Stop>
+        ensures write_fault { IsErrOf result (Stop.Fault WriteFault) → Rose (P.write_faults peer.old) (P.write_faults peer.new) }
+        ensures read_fault { IsErrOf result (Stop.Fault ReadFault) → Rose (P.read_faults peer.old) (P.read_faults peer.new) }
+        ensures writes { P.write_faults peer.old ≤ P.write_faults peer.new }
+        ensures reads { P.read_faults peer.old ≤ P.read_faults peer.new }
+    {
         self.turn(peer)?;
         if self.line.as_slice() == HELLO {
             Ok(())
@@ -123,14 +139,26 @@ impl Talk {
     }
 
     /// Says all that is to be said.
-    pub(crate) fn flush<P: Peer>(&mut self, peer: &mut P) -> Result<(), PeerError> {
+    #[tactic(auto, using(crate::proofs::Faults::rose_behind))]
+    pub(crate) fn flush<P: Peer>(&mut self, peer: &mut P) -> Result<(), PeerError>
+        ensures write_fault { IsErrOf result PeerError.WriteFault → Rose (P.write_faults peer.old) (P.write_faults peer.new) }
+        ensures read_fault { IsErrOf result PeerError.ReadFault → Rose (P.read_faults peer.old) (P.read_faults peer.new) }
+        ensures writes { P.write_faults peer.old ≤ P.write_faults peer.new }
+        ensures reads { P.read_faults peer.old ≤ P.read_faults peer.new }
+    {
         peer.say(&self.said)?;
         self.said.clear();
         Ok(())
     }
 
     /// The line of a label is to be said.
-    pub(crate) fn add_label<P: Peer>(&mut self, label: &Label, peer: &mut P) -> Result<(), Stop> {
+    #[tactic(auto, using(crate::proofs::Faults::rose_behind))]
+    pub(crate) fn add_label<P: Peer>(&mut self, label: &Label, peer: &mut P) -> Result<(), Stop>
+        ensures write_fault { IsErrOf result (Stop.Fault WriteFault) → Rose (P.write_faults peer.old) (P.write_faults peer.new) }
+        ensures read_fault { IsErrOf result (Stop.Fault ReadFault) → Rose (P.read_faults peer.old) (P.read_faults peer.new) }
+        ensures writes { P.write_faults peer.old ≤ P.write_faults peer.new }
+        ensures reads { P.read_faults peer.old ≤ P.read_faults peer.new }
+    {
         push_line(&mut self.said, label)?;
         if self.said.len() >= ENOUGH {
             self.flush(peer)?;
@@ -139,13 +167,20 @@ impl Talk {
     }
 
     /// The next ask, of these words, is said, and its answer is heard.
-    pub(crate) fn ask<P: Peer>(&mut self, words: &[u8], peer: &mut P) -> Result<(), Stop> {
+    #[tactic(auto, using(crate::proofs::Faults::rose_behind))]
+    pub(crate) fn ask<P: Peer>(&mut self, words: &[u8], peer: &mut P) -> Result<(), Stop>
+        ensures write_fault { IsErrOf result (Stop.Fault WriteFault) → Rose (P.write_faults peer.old) (P.write_faults peer.new) }
+        ensures read_fault { IsErrOf result (Stop.Fault ReadFault) → Rose (P.read_faults peer.old) (P.read_faults peer.new) }
+        ensures writes { P.write_faults peer.old ≤ P.write_faults peer.new }
+        ensures reads { P.read_faults peer.old ≤ P.read_faults peer.new }
+    {
         self.asks = self.asks.saturating_add(1);
         push_ask(&mut self.said, self.asks, words)?;
         self.turn(peer)
     }
 
     /// Asks a driver, and hears what it answers; which rules it broke is to be said.
+    #[tactic(auto, using(crate::proofs::Faults::rose_behind))]
     pub(crate) fn ask_driver<P: Peer>(
         &mut self,
         alloc: Global,
@@ -153,7 +188,12 @@ impl Talk {
         driver: &Text,
         may_pend: bool,
         peer: &mut P,
-    ) -> Result<Answer, Stop> {
+    ) -> Result<Answer, Stop>
+        ensures write_fault { IsErrOf result (Stop.Fault WriteFault) → Rose (P.write_faults peer.old) (P.write_faults peer.new) }
+        ensures read_fault { IsErrOf result (Stop.Fault ReadFault) → Rose (P.read_faults peer.old) (P.read_faults peer.new) }
+        ensures writes { P.write_faults peer.old ≤ P.write_faults peer.new }
+        ensures reads { P.read_faults peer.old ≤ P.read_faults peer.new }
+    {
         self.ask(words, peer)?;
         let Some(reply) = reply_of(alloc, &self.line, self.asks, may_pend)? else {
             return Err(Stop::Bad);

@@ -1,4 +1,6 @@
 //! What the lines of a run told of its live drivers.
+ghost use Rattle.std.specs.Prelude.{◌<◌, IfSome, length};
+
 use crate::live::LiveDrivers;
 use device_ids::{Text, WantOfMemory};
 use pnp_labels::{Deed, DevState, Label, Minor, Shown};
@@ -51,7 +53,9 @@ impl Drop for Trail {
 }
 
 /// The place of the first request of this minor for the device of this path.
-fn place_of(waiting: &[Waiting], path: &Text, minor: Minor) -> Option<usize> {
+fn place_of(waiting: &[Waiting], path: &Text, minor: Minor) -> Option<usize>
+    ensures { IfSome result (λ at. at < length waiting.now) }
+{
     for at in 0..waiting.len() {
         if waiting[at].minor == minor && waiting[at].path.same(path) {
             return Some(at);
