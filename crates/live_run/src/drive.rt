@@ -209,29 +209,48 @@ fn play<M: Machine, P: Peer>(
     }
 }
 
-/// How a run ended; where its answers ended or were none, that is said.
-fn ended_by<P: Peer>(
-    ended: Result<Ended, Stop>,
+/// Says that the answers end, or are bad, at the last ask.
+#[tactic(auto, using(crate::proofs::Faults::rose_behind))]
+fn say_where<P: Peer>(
+    words: &[u8],
+    ended: Ended,
     talk: &mut Talk,
     peer: &mut P,
-) -> Result<Ended, DriveError> {
-    let ended = match ended {
-        Ok(ended) => return Ok(ended),
-        Err(Stop::Fault(error)) => return Err(error),
-        Err(Stop::End) => {
-            push_numbered(&mut talk.said, b"answers end at ask ", talk.asks)?;
-            Ended::AnswersEnd
-        }
-        Err(Stop::Bad) => {
-            push_numbered(&mut talk.said, b"answers bad at ask ", talk.asks)?;
-            Ended::AnswersBad
-        }
-    };
+) -> Result<Ended, DriveError>
+    ensures write_fault { IsErrOf result WriteFault → Rose (P.write_faults peer.old) (P.write_faults peer.new) }
+    ensures read_fault { IsErrOf result ReadFault → Rose (P.read_faults peer.old) (P.read_faults peer.new) }
+    ensures writes { P.write_faults peer.old ≤ P.write_faults peer.new }
+    ensures reads { P.read_faults peer.old ≤ P.read_faults peer.new }
+{
+    push_numbered(&mut talk.said, words, talk.asks)?;
     talk.flush(peer)?;
     Ok(ended)
 }
 
-/// Hears the first line of the answers, before anything is said: none where it is `live 1`; else how the run ended.
+/// Says that the answers end at the last ask.
+#[tactic(auto, using(crate::proofs::Faults::rose_behind))]
+fn say_end<P: Peer>(talk: &mut Talk, peer: &mut P) -> Result<Ended, DriveError>
+    ensures write_fault { IsErrOf result WriteFault → Rose (P.write_faults peer.old) (P.write_faults peer.new) }
+    ensures read_fault { IsErrOf result ReadFault → Rose (P.read_faults peer.old) (P.read_faults peer.new) }
+    ensures writes { P.write_faults peer.old ≤ P.write_faults peer.new }
+    ensures reads { P.read_faults peer.old ≤ P.read_faults peer.new }
+{
+    say_where(b"answers end at ask ", Ended::AnswersEnd, talk, peer)
+}
+
+/// Says that the answer to the last ask is none.
+#[tactic(auto, using(crate::proofs::Faults::rose_behind))]
+fn say_bad<P: Peer>(talk: &mut Talk, peer: &mut P) -> Result<Ended, DriveError>
+    ensures write_fault { IsErrOf result WriteFault → Rose (P.write_faults peer.old) (P.write_faults peer.new) }
+    ensures read_fault { IsErrOf result ReadFault → Rose (P.read_faults peer.old) (P.read_faults peer.new) }
+    ensures writes { P.write_faults peer.old ≤ P.write_faults peer.new }
+    ensures reads { P.read_faults peer.old ≤ P.read_faults peer.new }
+{
+    say_where(b"answers bad at ask ", Ended::AnswersBad, talk, peer)
+}
+
+/// Hears the first line of the answers, before anything is said: none where it is `live 1`; else how the run ended, which was said. `ReadFault`
+/// and `WriteFault` come only where the count of read faults, or of write faults, rose in this call.
 #[tactic(auto, using(crate::proofs::Faults::rose_behind))]
 pub fn greet<P: Peer>(alloc: Global, peer: &mut P) -> Result<Option<Ended>, DriveError>
     ensures write_fault { IsErrOf result WriteFault → Rose (P.write_faults peer.old) (P.write_faults peer.new) }
@@ -242,12 +261,16 @@ pub fn greet<P: Peer>(alloc: Global, peer: &mut P) -> Result<Option<Ended>, Driv
     let mut talk = Talk::new(alloc);
     match talk.hear_hello(peer) {
         Ok(()) => Ok(None),
-        Err(stop) => Ok(Some(ended_by(Err(stop), &mut talk, peer)?)),
+        Err(Stop::Fault(error)) => Err(error),
+        Err(Stop::End) => Ok(Some(say_end(&mut talk, peer)?)),
+        Err(Stop::Bad) => Ok(Some(say_bad(&mut talk, peer)?)),
     }
 }
 
-/// Runs a script, which was fed whole, on a machine of which some drivers are live, against the other side, which was greeted. Condition: no
-/// event happened to the machine.
+/// Runs a script, which was fed whole, on a machine of which some drivers are live, against the other side, which was greeted: how the run
+/// ended, which was said. `ReadFault` and `WriteFault` come only where the count of read faults, or of write faults, rose in this call.
+/// Condition: no event happened to the machine. Cost: that of the steps and events; for each line of a state, with probes, the number of live
+/// drivers that are attached.
 #[tactic(auto, using(crate::proofs::Faults::rose_behind))]
 pub fn drive<M: Machine, P: Peer>(
     alloc: Global,
@@ -264,7 +287,10 @@ pub fn drive<M: Machine, P: Peer>(
 {
     let mut trail = Trail::new(alloc);
     let mut talk = Talk::new(alloc);
-    let ended = play(alloc, machine, reader, live, &mut trail, &mut talk, peer);
-    drop(trail);
-    ended_by(ended, &mut talk, peer)
+    match play(alloc, machine, reader, live, &mut trail, &mut talk, peer) {
+        Ok(ended) => Ok(ended),
+        Err(Stop::Fault(error)) => Err(error),
+        Err(Stop::End) => say_end(&mut talk, peer),
+        Err(Stop::Bad) => say_bad(&mut talk, peer),
+    }
 }
