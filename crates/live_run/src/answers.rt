@@ -1,8 +1,8 @@
 //! The lines of the answers.
-use device_ids::{InstancePath, PathError, WantOfMemory, cut};
+use device_ids::{WantOfMemory, cut};
 use pnp_labels::{Answer, Minor, decimal};
 use script_reader::{answer_of, is_name, minor_of, ok_of};
-use std::alloc::{AllocError, Global};
+use std::alloc::Global;
 
 /// The number of its ask, and the words behind it, of a line.
 pub(crate) fn words_of(
@@ -74,19 +74,10 @@ pub(crate) enum Polled<'a> {
 /// A request that completes, and the tags behind it.
 #[derive(Drop)]
 pub(crate) struct Completion<'a> {
-    pub(crate) path: InstancePath,
+    pub(crate) path: &'a [u8],
     pub(crate) minor: Minor,
     pub(crate) ok: bool,
     pub(crate) tags: Vec<&'a [u8]>,
-}
-
-/// The path that a word is, if it is one.
-fn path_of(alloc: Global, word: &[u8]) -> Result<Option<InstancePath>, WantOfMemory> {
-    match InstancePath::read(alloc, word) {
-        Ok(path) => Ok(Some(path)),
-        Err(PathError::WantOfMemory) => Err(AllocError),
-        Err(_) => Ok(None),
-    }
 }
 
 /// Whether a word is this one.
@@ -97,7 +88,7 @@ fn is_word(word: &[u8], own: &[u8]) -> bool {
 /// The completion that these words and tags say, if they say one.
 fn completion_of<'a>(
     alloc: Global,
-    path: &[u8],
+    path: &'a [u8],
     minor: &[u8],
     ok: &[u8],
     tags: &[&'a [u8]],
@@ -106,15 +97,12 @@ fn completion_of<'a>(
         return Ok(None);
     };
     let tags = Vec::from_slice(alloc, tags)?;
-    match path_of(alloc, path)? {
-        Some(path) => Ok(Some(Polled::Complete(Completion {
-            path,
-            minor,
-            ok,
-            tags,
-        }))),
-        None => Ok(None),
-    }
+    Ok(Some(Polled::Complete(Completion {
+        path,
+        minor,
+        ok,
+        tags,
+    })))
 }
 
 /// What a line answers to a poll of this number; none where it is no answer to it.

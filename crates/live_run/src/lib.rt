@@ -3,7 +3,7 @@
 
 mod answers;
 mod asks;
-mod drive;
+mod driving;
 mod live;
 mod machine;
 mod poll;
@@ -14,7 +14,7 @@ mod talk;
 mod trail;
 
 pub use asks::{LiveAsk, ask_words};
-pub use drive::{drive, greet};
+pub use driving::{drive, greet};
 pub use live::LiveDrivers;
 pub use machine::Machine;
 pub use stop::{DriveError, Ended};

@@ -7,9 +7,19 @@ use crate::answers::{Completion, Polled, polled_of};
 use crate::stop::Stop;
 use crate::talk::{Talk, push_done, push_tags};
 use crate::trail::Trail;
+use device_ids::{InstancePath, PathError, Text, WantOfMemory};
 use live_io::Peer;
 use pnp_labels::Event;
-use std::alloc::Global;
+use std::alloc::{AllocError, Global};
+
+/// The path that a word is, if it is one.
+fn path_of(alloc: Global, word: &[u8]) -> Result<Option<InstancePath>, WantOfMemory> {
+    match InstancePath::read(alloc, word) {
+        Ok(path) => Ok(Some(path)),
+        Err(PathError::WantOfMemory) => Err(AllocError),
+        Err(_) => Ok(None),
+    }
+}
 
 impl Talk {
     /// Asks whether one of the requests that wait completes: the event that it does, and what is to be said before its line; or none.
@@ -40,8 +50,9 @@ impl Talk {
         else {
             return Ok(None);
         };
-        let name = path.text(alloc)?;
-        let Some(driver) = trail.driver_at(&name, minor) else {
+        let name = Text::make(alloc, path)?;
+        let (Some(path), Some(driver)) = (path_of(alloc, path)?, trail.driver_at(&name, minor))
+        else {
             return Err(Stop::Bad);
         };
         push_done(&mut self.said, self.asks, driver.bytes())?;

@@ -1,6 +1,6 @@
 use Rattle.std.proofs.Common.{◌≤◌, ◌-◌}
 use Rattle.pnp_model.specs.Machine.{IsQuiet}
-use Rattle.live_run.proofs.drive.play.Given as goal
+use Rattle.live_run.proofs.driving.play.Given as goal
 
 abbrev pub invariant-events : goal.invariant-events
 invariant-events g l = record {

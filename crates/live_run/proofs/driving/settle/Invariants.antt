@@ -1,5 +1,5 @@
 use Rattle.std.proofs.Common.{◌≡◌, ◌≤◌}
-use Rattle.live_run.proofs.drive.settle.Given as goal
+use Rattle.live_run.proofs.driving.settle.Given as goal
 
 abbrev pub invariant-steps : goal.invariant-steps
 invariant-steps g l = record {
