@@ -5,7 +5,7 @@ use Rattle.pnp_labels.specs.Texts.{Text}
 use Rattle.drive_cli.specs.Files.{SomeRose}
 
 -- the count of a name rose, also from before
-rose_before : (old middle new : ℕ) → old ≤ middle → Rose middle new → Rose old new
+pub rose_before : (old middle new : ℕ) → old ≤ middle → Rose middle new → Rose old new
 rose_before old middle new le (inl less) = inl (omega (arith, le, less))
 rose_before old middle new le (inr top) = inr top
 

@@ -1,5 +1,6 @@
 //! The live run that the words name.
-ghost use Rattle.std.specs.Prelude.{◌≡◌, ◌≤◌, IfOk, length};
+ghost use Rattle.std.specs.Prelude.{◌≡◌, ◌≤◌, IfOk, IsErrOf, length};
+ghost use Rattle.pnp_io.specs.Outside.{Rose};
 
 use crate::fault::DriveFault;
 use crate::files::{read_file, read_infs};
@@ -10,7 +11,7 @@ use crate::script::{reader_of, refuse_clients};
 use crate::status::Status;
 use crate::words::{Words, words_of};
 use free_run::FreeRun;
-use live_io::Peer;
+use live_io::{Peer, PeerError};
 use live_run::{DriveError, Ended, LiveDrivers, drive, greet};
 use pnp_io::Files;
 use script_reader::Reader;
@@ -20,7 +21,9 @@ use std::alloc::Global;
 const MOST_INFS: usize = 64;
 
 /// The status of a run that has ended.
-fn ended_status(ended: Ended) -> Status {
+fn ended_status(ended: Ended) -> Status
+    ensures { result ≡ Status.WriteFault → ⊥ }
+{
     match ended {
         Ended::Done => Status::Done,
         Ended::BadLine => Status::BadLine,
@@ -30,7 +33,9 @@ fn ended_status(ended: Ended) -> Status {
 }
 
 /// The status of a run that was given up.
-fn error_status(error: DriveError) -> Status {
+fn error_status(error: DriveError) -> Status
+    ensures { result ≡ Status.WriteFault → error ≡ DriveError.WriteFault }
+{
     match error {
         DriveError::ReadFault => Status::ReadFault,
         DriveError::WriteFault => Status::WriteFault,
@@ -40,7 +45,9 @@ fn error_status(error: DriveError) -> Status {
 }
 
 /// The status of a run that ended, or was given up.
-fn status_of(ended: Result<Ended, DriveError>) -> Status {
+fn status_of(ended: Result<Ended, DriveError>) -> Status
+    ensures { result ≡ Status.WriteFault → IsErrOf ended DriveError.WriteFault }
+{
     match ended {
         Ok(ended) => ended_status(ended),
         Err(error) => error_status(error),
@@ -62,7 +69,9 @@ fn run_machine<P: Peer>(
     live: &LiveDrivers,
     peer: &mut P,
 ) -> Status
-    requires { machine.run.events ≡ 0 }
+    requires events { machine.run.events ≡ 0 }
+    ensures write_fault { result ≡ Status.WriteFault → Rose (P.write_faults peer.old) (P.write_faults peer.new) }
+    ensures writes { P.write_faults peer.old ≤ P.write_faults peer.new }
 {
     let mut machine = machine;
     let mut reader = reader;
@@ -92,7 +101,10 @@ fn read_named<F: Files>(
 }
 
 /// The status where a run did not begin. The line of a refused INF is said.
-fn answer_fault<P: Peer>(alloc: Global, fault: DriveFault, peer: &mut P) -> Status {
+fn answer_fault<P: Peer>(alloc: Global, fault: DriveFault, peer: &mut P) -> Status
+    ensures write_fault { result ≡ Status.WriteFault → Rose (P.write_faults peer.old) (P.write_faults peer.new) }
+    ensures writes { P.write_faults peer.old ≤ P.write_faults peer.new }
+{
     match fault {
         DriveFault::BadWords => Status::BadWords,
         DriveFault::ReadFault => Status::ReadFault,
@@ -103,7 +115,9 @@ fn answer_fault<P: Peer>(alloc: Global, fault: DriveFault, peer: &mut P) -> Stat
             Err(_) => Status::WantOfMemory,
             Ok(line) => match peer.say(&line) {
                 Ok(()) => Status::BadInf,
-                Err(error) => error_status(DriveError::from(error)),
+                Err(PeerError::WriteFault) => Status::WriteFault,
+                Err(PeerError::ReadFault) => Status::ReadFault,
+                Err(PeerError::WantOfMemory) => Status::WantOfMemory,
             },
         },
     }
@@ -118,7 +132,9 @@ fn run_named<F: Files, P: Peer>(
     files: &mut F,
     peer: &mut P,
 ) -> Status
-    requires { length inf_names.now ≤ 64 }
+    requires few { length inf_names.now ≤ 64 }
+    ensures write_fault { result ≡ Status.WriteFault → Rose (P.write_faults peer.old) (P.write_faults peer.new) }
+    ensures writes { P.write_faults peer.old ≤ P.write_faults peer.new }
 {
     match read_named(alloc, script_name, inf_names, words.budget(), files) {
         Ok(Named { machine, reader }) => run_machine(alloc, machine, reader, &words.live, peer),
@@ -127,7 +143,11 @@ fn run_named<F: Files, P: Peer>(
 }
 
 /// The same of words that were taken: the answers are opened, and greeted, before anything else is read.
-fn answer<F: Files, P: Peer>(alloc: Global, words: &Words, files: &mut F, peer: &mut P) -> Status {
+#[tactic(auto, using(crate::proofs::Faults::rose_before))]
+fn answer<F: Files, P: Peer>(alloc: Global, words: &Words, files: &mut F, peer: &mut P) -> Status
+    ensures write_fault { result ≡ Status.WriteFault → Rose (P.write_faults peer.old) (P.write_faults peer.new) }
+    ensures writes { P.write_faults peer.old ≤ P.write_faults peer.new }
+{
     let [answers_name, script_name, inf_names @ ..] = words.names.as_slice() else {
         return Status::BadWords;
     };
@@ -146,12 +166,16 @@ fn answer<F: Files, P: Peer>(alloc: Global, words: &Words, files: &mut F, peer: 
 
 /// Runs what the words name, which are the program's name, the answers, a script and up to 64 INFs, and the names of the drivers that are
 /// live, `--live NAME` at least once, and perhaps `--probes` and `--budget N`. The answers are those that the other side has of their name.
+/// `WriteFault` comes only where the count of write faults rose in this call.
 pub fn drive_words<F: Files, P: Peer>(
     alloc: Global,
     words: &[String],
     files: &mut F,
     peer: &mut P,
-) -> Status {
+) -> Status
+    ensures write_fault { result ≡ Status.WriteFault → Rose (P.write_faults peer.old) (P.write_faults peer.new) }
+    ensures writes { P.write_faults peer.old ≤ P.write_faults peer.new }
+{
     match words_of(alloc, words) {
         Ok(words) => answer(alloc, &words, files, peer),
         Err(DriveFault::WantOfMemory) => Status::WantOfMemory,
