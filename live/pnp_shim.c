@@ -47,6 +47,16 @@ static void tell(const char *number, const char *answer, bool has_tags)
         tag_count = 0;
 }
 
+/* Cuts the next word off a line; an empty one where there is none. */
+static char *word_of(char **line)
+{
+    char *word = *line;
+    size_t length = strcspn(word, " ");
+    *line = word + length + (word[length] == ' ');
+    word[length] = 0;
+    return word;
+}
+
 /* ---- AddDevice */
 static void add(struct shim_device *device, const char *number)
 {
@@ -133,6 +143,15 @@ static void begin(struct shim_device *device, struct shim_request *request, char
     device->removing = request->minor == IRP_MN_REMOVE_DEVICE;
 }
 
+/* Nobody waits any more for what the driver pended. */
+static void give_up_waiting(struct shim_device *device)
+{
+    if (device->waits && device->waits->completed)
+        shim_let_go(device->waits);
+    else if (device->waits)
+        shim_keep_other(device->waits);
+    device->waits = NULL;
+}
 static void ask(struct shim_device *device, const struct minor *minor, const char *number, char *words)
 {
     struct shim_request *request;
@@ -145,6 +164,7 @@ static void ask(struct shim_device *device, const struct minor *minor, const cha
     begin(device, request, words);
     shim_dispatch(request);
     if (!request->completed) {
+        give_up_waiting(device);
         device->waits = request;
         device->waits_word = minor->word;
         tell(number, "pend", true);
@@ -159,9 +179,7 @@ static void ask(struct shim_device *device, const struct minor *minor, const cha
 static void poll(const char *number)
 {
     char answer[SHIM_PATH_SIZE + 64];
-    shim_count_poll();
-    while (shim_run_work(true))
-        ;
+    shim_work_of_poll();
     for (struct shim_device *device = shim_devices; device; device = device->next)
         if (device->waits && device->waits->completed) {
             struct shim_request *request = device->waits;
@@ -175,36 +193,31 @@ static void poll(const char *number)
     tell(number, "none", false);
 }
 /* A line of the script completed what a driver pended, before the driver did. */
-static void completed_by_script(char *line)
+static void completed_by_script(char *rest)
 {
-    char path[SHIM_PATH_SIZE], word[40];
-    if (sscanf(line, "event complete %639s %39s", path, word) != 2)
-        return;
+    const char *path = word_of(&rest), *word = word_of(&rest);
     for (struct shim_device *device = shim_devices; device; device = device->next)
-        if (device->waits && !strcmp(device->path, path) && !strcmp(device->waits_word, word)) {
-            shim_keep_other(device->waits);
-            device->waits = NULL;
-        }
+        if (device->waits && !strcmp(device->path, path) && !strcmp(device->waits_word, word))
+            give_up_waiting(device);
 }
 
 /* ---- lines */
-static void hear_ask(char *line)
+static void hear_ask(char *rest)
 {
-    char number[32], what[40], path[SHIM_PATH_SIZE], name[SHIM_NAME_SIZE];
-    int used = 0, count = sscanf(line, "# ask %31s %39s %639s %64s%n", number, what, path, name, &used);
-    const struct minor *minor = count >= 2 ? minor_of(what) : NULL;
-    if (count == 2 && !strcmp(what, "poll")) {
+    const char *number = word_of(&rest), *what = word_of(&rest), *path = word_of(&rest), *name = word_of(&rest);
+    const struct minor *minor = minor_of(what);
+    if (!strcmp(what, "poll")) {
         poll(number);
         return;
     }
-    if (count != 4 || (line[used] && line[used] != ' '))
+    if (!*name || strlen(path) >= SHIM_PATH_SIZE || strlen(name) >= SHIM_NAME_SIZE)
         die("an ask is not understood");
     if (!strcmp(what, "add"))
         add(shim_device_of(path, name), number);
     else if (!strcmp(what, "probe"))
         tell(number, shim_probe(shim_device_of(path, name)), true);
     else if (minor)
-        ask(shim_device_of(path, name), minor, number, line + used);
+        ask(shim_device_of(path, name), minor, number, rest);
     else
         die("an ask has an unknown request");
     shim_free_deleted(false);
@@ -218,9 +231,9 @@ static void hear_all(void)
             die("a line is too long");
         line[length] = 0;
         if (!strncmp(line, "# ask ", 6))
-            hear_ask(line);
+            hear_ask(line + 6);
         else if (!strncmp(line, "event complete ", 15))
-            completed_by_script(line);
+            completed_by_script(line + 15);
     }
 }
 

@@ -3,11 +3,6 @@
 #include <stdio.h>
 #include <stdlib.h>
 
-void shim_keep_other(struct shim_request *request)
-{
-    request->next_other = request->device->others;
-    request->device->others = request;
-}
 static void drop_other(struct shim_request *request)
 {
     for (struct shim_request **at = &request->device->others; *at; at = &(*at)->next_other)
@@ -16,6 +11,14 @@ static void drop_other(struct shim_request *request)
             break;
         }
     shim_let_go(request);
+}
+/* Keeps a request until it is completed, whenever that is. */
+void shim_keep_other(struct shim_request *request)
+{
+    if (!request->done)
+        request->done = drop_other;
+    request->next_other = request->device->others;
+    request->device->others = request;
 }
 
 /* ---- requests that each driver of a stack passes down, also what it does not know */
@@ -68,14 +71,12 @@ struct handle {
     struct shim_device *device;
     FILE_OBJECT file;
 };
-static void drop(struct shim_request *request) { drop_other(request); }
 static void send_file_request(struct handle *handle, int major)
 {
     struct shim_request *request;
     if (!handle->device->own || !shim_driver.MajorFunction[major])
         return;
     request = shim_ask(handle->device, major, 0);
-    request->done = drop;
     shim_own_location(request)->FileObject = &handle->file;
     request->irp.Tail.Overlay.OriginalFileObject = &handle->file;
     shim_keep_other(request);

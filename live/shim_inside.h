@@ -63,7 +63,7 @@ extern struct shim_device *shim_now; /* whose driver is at work; NULL where that
 void *shim_memory(size_t size);      /* zeroes; ends the program where there is none */
 bool shim_run_work(bool due_only);   /* runs one piece of work, if there is one */
 void shim_forget_work(void *context);
-void shim_count_poll(void);
+void shim_work_of_poll(void);
 KIRQL shim_level(void);
 void shim_level_back(KIRQL level);
 

@@ -14,6 +14,8 @@ void *shim_memory(size_t size)
     return block;
 }
 
+#define MOST_AT_POLL 1000
+
 /* ---- work that runs later: a queue, of which each entry waits for so many polls */
 struct entry {
     shim_work *work;
@@ -23,13 +25,14 @@ struct entry {
     struct entry *next;
 };
 static struct entry *queue;
+static bool is_polling;
 
 void shim_queue_work(shim_work *work, void *context)
 {
     struct entry *entry = shim_memory(sizeof *entry), **at = &queue;
     entry->work = work;
     entry->context = context;
-    entry->polls = shim_settings.hold;
+    entry->polls = shim_settings.hold - is_polling; /* what is queued at a poll counts that one */
     entry->device = shim_now;
     while (*at)
         at = &(*at)->next;
@@ -63,10 +66,15 @@ void shim_forget_work(void *context)
             at = &(*at)->next;
         }
 }
-void shim_count_poll(void)
+/* Runs what is due at a poll: so many pieces at most, since a timer may set itself again and again. */
+void shim_work_of_poll(void)
 {
     for (struct entry *entry = queue; entry; entry = entry->next)
         entry->polls--;
+    is_polling = true;
+    for (int i = 0; i < MOST_AT_POLL && shim_run_work(true); i++)
+        ;
+    is_polling = false;
 }
 
 /* ---- levels: there is one processor */

@@ -206,6 +206,8 @@ static NTSTATUS sets_event(PDEVICE_OBJECT device, PIRP irp, PVOID context)
 BOOLEAN IoForwardIrpSynchronously(PDEVICE_OBJECT device, PIRP irp)
 {
     KEVENT event;
+    if (shim_level() >= DISPATCH_LEVEL)
+        shim_broke("waits-at-dispatch");
     KeInitializeEvent(&event, NotificationEvent, FALSE);
     IoCopyCurrentIrpStackLocationToNext(irp);
     IoSetCompletionRoutine(irp, sets_event, &event, TRUE, TRUE, TRUE);
@@ -246,6 +248,14 @@ static void finish(struct shim_request *request)
     if (request->ends_alone)
         shim_let_go(request);
 }
+/* The device object that a completion routine gets: that of the location above. Where there is none a driver that set one behind a skip
+ * gets its own, so that it lives to hear of it. */
+static PDEVICE_OBJECT device_above(const struct shim_request *request)
+{
+    if (request->irp.CurrentLocation <= request->irp.StackCount)
+        return request->irp.Tail.Overlay.CurrentStackLocation->DeviceObject;
+    return request->from_above && request->device ? request->device->own : NULL;
+}
 /* Goes up, over the routines that are wanted. Behind a routine that stops the way the request may be gone. */
 static void go_up(struct shim_request *request)
 {
@@ -258,8 +268,7 @@ static void go_up(struct shim_request *request)
         at->CompletionRoutine = NULL;
         move(irp, 1);
         if (routine && is_wanted) {
-            PDEVICE_OBJECT device = irp->CurrentLocation > irp->StackCount ? NULL : IoGetCurrentIrpStackLocation(irp)->DeviceObject;
-            if (routine(device, irp, at->Context) == STATUS_MORE_PROCESSING_REQUIRED)
+            if (routine(device_above(request), irp, at->Context) == STATUS_MORE_PROCESSING_REQUIRED)
                 return;
         } else if (irp->PendingReturned && irp->CurrentLocation <= irp->StackCount) {
             IoMarkIrpPending(irp);
