@@ -75,8 +75,6 @@ def main(kind, k):
         sys.exit(k)
     elif kind == "text":
         say(os.environ["TEXT"].encode("latin-1").replace(b"\\n", b"\n"))
-        for _ in sys.stdin.buffer:
-            pass
     else:
         sys.exit(2)
 
