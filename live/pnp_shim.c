@@ -61,7 +61,7 @@ static char *word_of(char **line)
 static void add(struct shim_device *device, const char *number)
 {
     NTSTATUS status;
-    device->started = device->ran = device->gone = false;
+    device->started = device->gone = false;
     device->removing = true; /* what it made it may delete again */
     shim_now = device;
     status = shim_driver.DriverExtension->AddDevice(&shim_driver, &device->bus_object.object);
@@ -74,8 +74,6 @@ static void add(struct shim_device *device, const char *number)
         shim_broke("attached-though-failed");
     if (device->own && (device->own->Flags & DO_DEVICE_INITIALIZING))
         shim_broke("still-initializing");
-    if (NT_SUCCESS(status))
-        shim_probe_as(device, "NotStarted");
     tell(number, NT_SUCCESS(status) ? "ok" : "fail", true);
 }
 
@@ -96,36 +94,12 @@ static const struct minor *minor_of(const char *word)
 /* Once a request is over: what must be so now, and what else is asked. */
 static void settle(struct shim_device *device, const struct shim_request *request)
 {
-    if (request->minor == IRP_MN_REMOVE_DEVICE) {
+    if (request->minor == IRP_MN_REMOVE_DEVICE)
         shim_judge_removed(device);
-        return;
-    }
-    if (!NT_SUCCESS(request->completed_status) && shim_may_be_failed(request))
-        return;
-    switch (request->minor) {
-    case IRP_MN_START_DEVICE:
-        device->ran = true;
+    else if (request->minor == IRP_MN_STOP_DEVICE || request->minor == IRP_MN_SURPRISE_REMOVAL)
+        shim_judge_left(device);
+    else if (request->minor == IRP_MN_START_DEVICE && NT_SUCCESS(request->completed_status))
         shim_ask_others(device);
-        shim_probe_as(device, "Started");
-        break;
-    case IRP_MN_CANCEL_STOP_DEVICE:
-    case IRP_MN_CANCEL_REMOVE_DEVICE:
-        if (device->ran)
-            shim_probe_as(device, "Started");
-        break;
-    case IRP_MN_STOP_DEVICE:
-        device->ran = false;
-        shim_judge_left(device);
-        shim_probe_as(device, "Stopped");
-        break;
-    case IRP_MN_SURPRISE_REMOVAL:
-        device->ran = false;
-        shim_judge_left(device);
-        shim_probe_as(device, "SurpriseRemoved");
-        break;
-    default:
-        break;
-    }
 }
 
 static void begin(struct shim_device *device, struct shim_request *request, char *words)
@@ -239,12 +213,11 @@ static void hear_all(void)
 
 static void usage(void)
 {
-    fprintf(stderr, "Usage: DRIVER [--lower-pends] [--lower-fails] [--hold K] [--probes] [--debug]\n\n"
+    fprintf(stderr, "Usage: DRIVER [--lower-pends] [--lower-fails] [--hold K] [--debug]\n\n"
                     "A driver over pnp_shim: asked by lines on standard input, it answers on standard output (docs/LIVE.md).\n\n"
                     "  --lower-pends   the bus driver below completes each PnP request later\n"
                     "  --lower-fails   it fails START_DEVICE\n"
                     "  --hold K        what is done later is done at the K-th poll, 1 without it\n"
-                    "  --probes        a create request is sent after each change, to see whether it fits the state\n"
                     "  --debug         shows what the driver prints\n\n"
                     "Statuses: 0 the input is over; 1 DriverEntry failed, or named no AddDevice; 2 other words; 3 a fault; 4 a tag is untold\n");
 }
@@ -255,8 +228,6 @@ static bool read_words(int count, char **words)
             shim_settings.lower_pends = true;
         else if (!strcmp(words[i], "--lower-fails"))
             shim_settings.lower_fails = true;
-        else if (!strcmp(words[i], "--probes"))
-            shim_settings.probes = true;
         else if (!strcmp(words[i], "--debug"))
             shim_settings.debug = true;
         else if (!strcmp(words[i], "--hold") && i + 1 < count && atoi(words[i + 1]) > 0)

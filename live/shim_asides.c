@@ -1,6 +1,5 @@
 /* What a driver is asked beside the manager's requests: what Windows sends to each started device too, and whether a program may open it. */
 #include "shim_inside.h"
-#include <stdio.h>
 #include <stdlib.h>
 
 static void drop_other(struct shim_request *request)
@@ -122,24 +121,4 @@ const char *shim_probe(struct shim_device *device)
     else
         free(handle);
     return NT_SUCCESS(status) ? "ok" : "fail";
-}
-
-/* What does not fit the state that the device has, by what its driver was asked. A driver without a routine for creates is not tried. */
-void shim_probe_as(struct shim_device *device, const char *state)
-{
-    char tag[SHIM_NAME_SIZE];
-    const char *answer;
-    bool fits;
-    if (!shim_settings.probes || !device->own || !shim_driver.MajorFunction[IRP_MJ_CREATE])
-        return;
-    answer = shim_probe(device);
-    if (!strcmp(state, "Started"))
-        fits = strcmp(answer, "fail") != 0;
-    else if (!strcmp(state, "SurpriseRemoved"))
-        fits = !strcmp(answer, "fail");
-    else
-        fits = strcmp(answer, "ok") != 0;
-    snprintf(tag, sizeof tag, "probe-%s-%s", state, answer);
-    if (!fits)
-        shim_broke(tag);
 }

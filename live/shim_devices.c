@@ -164,7 +164,7 @@ void shim_judge_removed(struct shim_device *device)
     }
     device->own = device->bus_object.object.AttachedDevice = NULL;
     device->interrupts = device->mappings = device->interfaces = 0;
-    device->started = device->ran = device->removing = false;
+    device->started = device->removing = false;
 }
 
 /* ---- resources */

@@ -42,7 +42,6 @@ struct shim_device {
     PDEVICE_OBJECT own;            /* what the driver attached above it; NULL where there is none */
     CM_RESOURCE_LIST given;
     bool started, gone, removing;  /* as the bus driver knows it */
-    bool ran;                      /* START_DEVICE was completed with success, and neither stopped nor gone since */
     struct shim_request *waits;    /* the request of the manager that the driver pended */
     const char *waits_word;
     struct shim_request *others;   /* what else it was asked and has not completed */
@@ -51,7 +50,7 @@ struct shim_device {
 };
 
 struct shim_settings {
-    bool lower_pends, lower_fails, probes, debug;
+    bool lower_pends, lower_fails, debug;
     int hold;
 };
 extern struct shim_settings shim_settings;
@@ -91,7 +90,6 @@ bool shim_is_of_manager(const struct shim_request *request);
 #define SHIM_LATER_MINOR 0x7e /* a PnP request that no driver knows */
 void shim_ask_others(struct shim_device *device);
 const char *shim_probe(struct shim_device *device);
-void shim_probe_as(struct shim_device *device, const char *state);
 void shim_keep_other(struct shim_request *request);
 
 #endif

@@ -280,7 +280,7 @@ static NTSTATUS dispatch_pnp(PDEVICE_OBJECT device, PIRP irp)
     case IRP_MN_CANCEL_STOP_DEVICE: status = cancel_stop(device, irp); break;
     case IRP_MN_STOP_DEVICE:
         leave(device);
-        it->started = is("probe-Stopped-ok");
+        it->started = FALSE;
         status = succeed(device, irp);
         break;
     case IRP_MN_QUERY_REMOVE_DEVICE:
@@ -288,7 +288,7 @@ static NTSTATUS dispatch_pnp(PDEVICE_OBJECT device, PIRP irp)
         status = succeed(device, irp);
         break;
     case IRP_MN_CANCEL_REMOVE_DEVICE:
-        it->started = !is("probe-Started-fail");
+        it->started = TRUE;
         status = succeed(device, irp);
         break;
     case IRP_MN_SURPRISE_REMOVAL: status = surprise(device, irp); break;
@@ -310,12 +310,12 @@ static NTSTATUS dispatch_wmi(PDEVICE_OBJECT device, PIRP irp) { return is("wmi-n
 static NTSTATUS dispatch_create(PDEVICE_OBJECT device, PIRP irp)
 {
     PEXTENSION it = of(device);
-    if ((is("request-left-queued") || is("probe-SurpriseRemoved-pend")) && it->gone && !it->held) {
+    if (is("request-left-queued") && it->gone && !it->held) {
         it->held = irp;
         IoMarkIrpPending(irp);
         return STATUS_PENDING;
     }
-    return complete(irp, it->started || is("probe-NotStarted-ok") || (it->gone && is("probe-SurpriseRemoved-ok")) ? STATUS_SUCCESS : STATUS_DEVICE_NOT_READY);
+    return complete(irp, it->started ? STATUS_SUCCESS : STATUS_DEVICE_NOT_READY);
 }
 
 static NTSTATUS add_device(PDRIVER_OBJECT driver, PDEVICE_OBJECT pdo)
