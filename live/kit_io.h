@@ -171,6 +171,37 @@ NTSTATUS IofCallDriver(PDEVICE_OBJECT device, PIRP irp);
 BOOLEAN IoForwardIrpSynchronously(PDEVICE_OBJECT device, PIRP irp);
 VOID IoCompleteRequest(PIRP irp, CCHAR boost);
 VOID IofCompleteRequest(PIRP irp, CCHAR boost);
+
+/* ---- queues of requests: the device's own, that of StartIo, and cancel-safe ones; and the deferred call of a device's interrupt */
+typedef VOID IO_DPC_ROUTINE(PKDPC dpc, PDEVICE_OBJECT device, PIRP irp, PVOID context);
+typedef IO_DPC_ROUTINE *PIO_DPC_ROUTINE;
+VOID IoInitializeDpcRequest(PDEVICE_OBJECT device, PIO_DPC_ROUTINE routine);
+VOID IoRequestDpc(PDEVICE_OBJECT device, PIRP irp, PVOID context);
+VOID IoStartPacket(PDEVICE_OBJECT device, PIRP irp, PULONG key, PDRIVER_CANCEL cancel);
+VOID IoStartNextPacket(PDEVICE_OBJECT device, BOOLEAN cancelable);
+
+struct _IO_CSQ;
+typedef struct _IO_CSQ_IRP_CONTEXT { PIRP Irp; struct _IO_CSQ *Csq; } IO_CSQ_IRP_CONTEXT, *PIO_CSQ_IRP_CONTEXT;
+typedef VOID IO_CSQ_INSERT_IRP(struct _IO_CSQ *csq, PIRP irp);
+typedef VOID IO_CSQ_REMOVE_IRP(struct _IO_CSQ *csq, PIRP irp);
+typedef PIRP IO_CSQ_PEEK_NEXT_IRP(struct _IO_CSQ *csq, PIRP irp, PVOID context);
+typedef VOID IO_CSQ_ACQUIRE_LOCK(struct _IO_CSQ *csq, PKIRQL old);
+typedef VOID IO_CSQ_RELEASE_LOCK(struct _IO_CSQ *csq, KIRQL old);
+typedef VOID IO_CSQ_COMPLETE_CANCELED_IRP(struct _IO_CSQ *csq, PIRP irp);
+typedef struct _IO_CSQ {
+    IO_CSQ_INSERT_IRP *CsqInsertIrp;
+    IO_CSQ_REMOVE_IRP *CsqRemoveIrp;
+    IO_CSQ_PEEK_NEXT_IRP *CsqPeekNextIrp;
+    IO_CSQ_ACQUIRE_LOCK *CsqAcquireLock;
+    IO_CSQ_RELEASE_LOCK *CsqReleaseLock;
+    IO_CSQ_COMPLETE_CANCELED_IRP *CsqCompleteCanceledIrp;
+} IO_CSQ, *PIO_CSQ;
+NTSTATUS IoCsqInitialize(PIO_CSQ csq, IO_CSQ_INSERT_IRP *insert, IO_CSQ_REMOVE_IRP *remove, IO_CSQ_PEEK_NEXT_IRP *peek, IO_CSQ_ACQUIRE_LOCK *acquire, IO_CSQ_RELEASE_LOCK *release, IO_CSQ_COMPLETE_CANCELED_IRP *complete);
+VOID IoCsqInsertIrp(PIO_CSQ csq, PIRP irp, PIO_CSQ_IRP_CONTEXT context);
+PIRP IoCsqRemoveNextIrp(PIO_CSQ csq, PVOID context);
+PIRP IoCsqRemoveIrp(PIO_CSQ csq, PIO_CSQ_IRP_CONTEXT context);
+
+/* ---- a cancel never comes */
 PDRIVER_CANCEL IoSetCancelRoutine(PIRP irp, PDRIVER_CANCEL routine);
 VOID IoAcquireCancelSpinLock(PKIRQL old);
 VOID IoReleaseCancelSpinLock(KIRQL old);
@@ -192,14 +223,28 @@ POWER_STATE PoSetPowerState(PDEVICE_OBJECT device, POWER_STATE_TYPE type, POWER_
 /* ---- WMI: nothing is registered, and each request is to be passed down */
 typedef enum { IrpProcessed, IrpNotCompleted, IrpNotWmi, IrpForward } SYSCTL_IRP_DISPOSITION, *PSYSCTL_IRP_DISPOSITION;
 typedef struct _WMIGUIDREGINFO { LPCGUID Guid; ULONG InstanceCount, Flags; } WMIGUIDREGINFO, *PWMIGUIDREGINFO;
+typedef enum _WMIENABLEDISABLECONTROL { WmiEventControl, WmiDataBlockControl } WMIENABLEDISABLECONTROL;
+typedef NTSTATUS WMI_QUERY_REGINFO_CALLBACK(PDEVICE_OBJECT device, PULONG flags, PUNICODE_STRING name, PUNICODE_STRING *registry_path, PUNICODE_STRING mof, PDEVICE_OBJECT *pdo);
+typedef NTSTATUS WMI_QUERY_DATABLOCK_CALLBACK(PDEVICE_OBJECT device, PIRP irp, ULONG guid, ULONG instance, ULONG count, PULONG lengths, ULONG room, PUCHAR buffer);
+typedef NTSTATUS WMI_SET_DATABLOCK_CALLBACK(PDEVICE_OBJECT device, PIRP irp, ULONG guid, ULONG instance, ULONG size, PUCHAR buffer);
+typedef NTSTATUS WMI_SET_DATAITEM_CALLBACK(PDEVICE_OBJECT device, PIRP irp, ULONG guid, ULONG instance, ULONG item, ULONG size, PUCHAR buffer);
+typedef NTSTATUS WMI_EXECUTE_METHOD_CALLBACK(PDEVICE_OBJECT device, PIRP irp, ULONG guid, ULONG instance, ULONG method, ULONG input_size, ULONG output_size, PUCHAR buffer);
+typedef NTSTATUS WMI_FUNCTION_CONTROL_CALLBACK(PDEVICE_OBJECT device, PIRP irp, ULONG guid, WMIENABLEDISABLECONTROL function, BOOLEAN enable);
 typedef struct _WMILIB_CONTEXT {
     ULONG GuidCount;
     PWMIGUIDREGINFO GuidList;
-    PVOID QueryWmiRegInfo, QueryWmiDataBlock, SetWmiDataBlock, SetWmiDataItem, ExecuteWmiMethod, WmiFunctionControl;
+    WMI_QUERY_REGINFO_CALLBACK *QueryWmiRegInfo;
+    WMI_QUERY_DATABLOCK_CALLBACK *QueryWmiDataBlock;
+    WMI_SET_DATABLOCK_CALLBACK *SetWmiDataBlock;
+    WMI_SET_DATAITEM_CALLBACK *SetWmiDataItem;
+    WMI_EXECUTE_METHOD_CALLBACK *ExecuteWmiMethod;
+    WMI_FUNCTION_CONTROL_CALLBACK *WmiFunctionControl;
 } WMILIB_CONTEXT, *PWMILIB_CONTEXT;
+#define WMIREG_FLAG_INSTANCE_PDO 0x20U
 #define WMIREG_ACTION_REGISTER 1U
 #define WMIREG_ACTION_DEREGISTER 2U
 NTSTATUS IoWMIRegistrationControl(PDEVICE_OBJECT device, ULONG action);
+NTSTATUS WmiCompleteRequest(PDEVICE_OBJECT device, PIRP irp, NTSTATUS status, ULONG used, CCHAR boost);
 NTSTATUS WmiSystemControl(PWMILIB_CONTEXT context, PDEVICE_OBJECT device, PIRP irp, PSYSCTL_IRP_DISPOSITION disposition);
 
 /* ---- work items, the registry, interfaces */
@@ -219,6 +264,8 @@ typedef enum _DEVICE_REGISTRY_PROPERTY { DevicePropertyDeviceDescription, Device
 NTSTATUS IoOpenDeviceRegistryKey(PDEVICE_OBJECT pdo, ULONG kind, ACCESS_MASK access, PHANDLE key);
 NTSTATUS IoGetDeviceProperty(PDEVICE_OBJECT pdo, DEVICE_REGISTRY_PROPERTY property, ULONG length, PVOID buffer, PULONG needed);
 NTSTATUS ZwClose(HANDLE handle);
+NTSTATUS IoCreateSymbolicLink(PUNICODE_STRING link, PUNICODE_STRING device_name);
+NTSTATUS IoDeleteSymbolicLink(PUNICODE_STRING link);
 NTSTATUS IoRegisterDeviceInterface(PDEVICE_OBJECT pdo, const GUID *interface_class, PUNICODE_STRING reference, PUNICODE_STRING link);
 NTSTATUS IoSetDeviceInterfaceState(PUNICODE_STRING link, BOOLEAN enable);
 VOID IoInvalidateDeviceState(PDEVICE_OBJECT pdo);
@@ -250,5 +297,9 @@ VOID WRITE_PORT_ULONG(PULONG port, ULONG value);
 #define WRITE_REGISTER_USHORT(place, value) ((void)(*(volatile USHORT *)(place) = (value)))
 #define WRITE_REGISTER_ULONG(place, value) ((void)(*(volatile ULONG *)(place) = (value)))
 VOID KeStallExecutionProcessor(ULONG microseconds);
+#define MmGetSystemAddressForMdlSafe(mdl, priority) ((PVOID)(mdl)) /* no request with a buffer comes */
+#define NormalPagePriority 16
+#define MmGetMdlByteCount(mdl) ((mdl)->ByteCount)
+VOID KeQuerySystemTime(PLARGE_INTEGER time);
 
 #endif

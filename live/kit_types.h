@@ -7,7 +7,7 @@
 #include <string.h>
 #include <wchar.h>
 
-/* ---- words that say something to Windows' compiler alone */
+/* ---- words that say something to Windows' compiler alone. The headers of C that a driver may include come first, as some name these. */
 #define VOID void
 #define CONST const
 #define IN
@@ -35,6 +35,17 @@
 #define _Function_class_(name)
 #define _Dispatch_type_(code)
 #define _IRQL_requires_(level)
+#define _Analysis_assume_(what)
+#define __drv_dispatchType(code)
+#define __drv_requiresIRQL(level)
+#define __drv_maxIRQL(level)
+#define __drv_aliasesMem
+#define __in
+#define __in_opt
+#define __inout
+#define __out
+#define __out_opt
+#define __forceinline static inline
 #define _IRQL_requires_max_(level)
 #define _IRQL_requires_same_
 #define _IRQL_raises_(level)

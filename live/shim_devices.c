@@ -50,6 +50,7 @@ NTSTATUS IoCreateDevice(PDRIVER_OBJECT driver, ULONG extension_size, PUNICODE_ST
     object->object.StackSize = 1;
     object->object.NextDevice = driver->DeviceObject;
     driver->DeviceObject = &object->object;
+    InitializeListHead(&object->packets);
     object->device = shim_now;
     object->next = objects;
     objects = object;

@@ -16,6 +16,9 @@ struct shim_object {
     struct shim_device *device;
     PDEVICE_OBJECT below;
     bool deleted;
+    KDPC dpc;
+    PIO_DPC_ROUTINE dpc_routine;
+    LIST_ENTRY packets; /* requests that StartIo has not begun */
     struct shim_object *next;
 };
 

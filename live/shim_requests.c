@@ -297,17 +297,6 @@ VOID IoCompleteRequest(PIRP irp, CCHAR boost)
 }
 VOID IofCompleteRequest(PIRP irp, CCHAR boost) { IoCompleteRequest(irp, boost); }
 
-/* ---- a cancel never comes */
-static KSPIN_LOCK cancel_lock;
-PDRIVER_CANCEL IoSetCancelRoutine(PIRP irp, PDRIVER_CANCEL routine)
-{
-    PDRIVER_CANCEL was = irp->CancelRoutine;
-    irp->CancelRoutine = routine;
-    return was;
-}
-VOID IoAcquireCancelSpinLock(PKIRQL old) { KeAcquireSpinLock(&cancel_lock, old); }
-VOID IoReleaseCancelSpinLock(KIRQL old) { KeReleaseSpinLock(&cancel_lock, old); }
-
 /* ---- requests that a driver makes */
 PIRP IoAllocateIrp(CCHAR stack_size, BOOLEAN charge)
 {

@@ -60,6 +60,15 @@ NTSTATUS WmiSystemControl(PWMILIB_CONTEXT context, PDEVICE_OBJECT device, PIRP i
     return STATUS_SUCCESS;
 }
 
+NTSTATUS WmiCompleteRequest(PDEVICE_OBJECT device, PIRP irp, NTSTATUS status, ULONG used, CCHAR boost)
+{
+    (void)device;
+    irp->IoStatus.Status = status;
+    irp->IoStatus.Information = used;
+    IoCompleteRequest(irp, boost);
+    return status;
+}
+
 /* ---- work items */
 struct _IO_WORKITEM {
     PDEVICE_OBJECT device;
@@ -107,6 +116,25 @@ NTSTATUS ZwClose(HANDLE handle)
 {
     (void)handle;
     return STATUS_SUCCESS;
+}
+
+/* ---- names that nobody looks up */
+NTSTATUS IoCreateSymbolicLink(PUNICODE_STRING link, PUNICODE_STRING device_name)
+{
+    (void)link, (void)device_name;
+    return STATUS_SUCCESS;
+}
+NTSTATUS IoDeleteSymbolicLink(PUNICODE_STRING link)
+{
+    (void)link;
+    return STATUS_SUCCESS;
+}
+
+/* ---- there is no clock: time goes on by a tenth of a microsecond with each look at it */
+VOID KeQuerySystemTime(PLARGE_INTEGER time)
+{
+    static LONGLONG now;
+    time->QuadPart = ++now;
 }
 
 /* ---- interfaces: one that was enabled is to be disabled before its device is removed */

@@ -1,4 +1,4 @@
-/* A driver that breaks one rule: the one that the environment names by its tag in RULE. Without one it breaks none. tests/run asks it. */
+/* A driver that breaks one rule: the one that the environment names by its tag in RULE. Without one it breaks none. tools/check_live asks it. */
 #include <ntddk.h>
 #include <stdlib.h>
 
