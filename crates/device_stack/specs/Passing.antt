@@ -1,5 +1,5 @@
 -- One step of a request that does not wait, with the line that it prints.
-use Rattle.std.specs.Prelude.{◌≡◌, ℕ, true, false, List, length, slice_index}
+use Rattle.std.specs.Prelude.{◌≡◌, ℕ, Bool, true, false, ◌||◌, List, Option, Some, None, length, slice_index}
 use Rattle.pnp_labels.specs.Texts.{Text}
 use Rattle.pnp_labels.specs.declared.label.Label.{Label}
 use Rattle.pnp_labels.specs.declared.words.AskWhat.TheVariants.{Irp}
@@ -12,6 +12,14 @@ use Rattle.device_stack.specs.declared.walk.Passed.TheVariants.{Asked, Ended}
 -- the driver that is asked next
 abbrev pub front : Walk → List ℕ → ℕ
 front w stack = slice_index stack (place_of w.minor (length stack) w.asked)
+
+-- the same where one is asked: the request neither waits nor has ended
+abbrev pub front_unless : Walk → List ℕ → Bool → Option ℕ
+front_unless w stack true = None
+front_unless w stack false = Some (front w stack)
+
+abbrev pub next_front : Walk → List ℕ → Option ℕ
+next_front w stack = front_unless w stack (w.waits || has_ended w (length stack))
 
 -- the driver of this number was asked: its line, and what walk and rack are then
 abbrev pub AskedOf : Walk → Text → List Driver → ℕ → Label → Walk → List Driver → Type 0

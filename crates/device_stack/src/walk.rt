@@ -1,7 +1,7 @@
 ghost use Rattle.std.specs.Prelude.{◌≡◌, ◌<◌, length, false, IfOk, OnErr};
 ghost use Rattle.pnp_model.specs.Walks.{walk_of, is_bad, has_ended, after};
 ghost use Rattle.device_stack.specs.Steps.{went, waits_at, Completed};
-ghost use Rattle.device_stack.specs.Passing.{front, Passes};
+ghost use Rattle.device_stack.specs.Passing.{front, next_front, Passes};
 ghost use Rattle.device_stack.specs.Waiting.{minor_if, CompletedWalk};
 
 use crate::ask::{ask_driver, driver_name};
@@ -135,6 +135,17 @@ impl Walk {
             *stack.get(pos)
         } else {
             0
+        }
+    }
+
+    /// The driver that the next step asks, by its number in the rack; none exactly where the request waits or has ended.
+    pub fn next_driver(&self, stack: &Stack) -> Option<u32>
+        ensures { result ≡ next_front self.now.walk stack.now }
+    {
+        if self.waits || self.has_ended(stack.len()) {
+            None
+        } else {
+            Some(self.driver_in_turn(stack))
         }
     }
 

@@ -10,6 +10,8 @@ pub mod OneVerdict
 pub mod Happenings
 pub mod TwinEvents
 pub mod Outs
+pub mod AskSteps
+pub mod SameQueries
 pub mod Armed
 pub mod Answered
 pub mod Converse

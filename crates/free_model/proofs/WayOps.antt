@@ -18,8 +18,9 @@ use Rattle.pnp_model.specs.Starts.{StartMove, act, add_driver, adding, goes}
 use Rattle.free_model.proofs.Racks.{faces_of, same_names, shapes_after}
 use Rattle.free_model.specs.Shapes.{faces}
 use Rattle.free_model.proofs.Alikes.{Alike, does, searches}
+use Rattle.free_model.specs.Asking.{said}
 use Rattle.free_model.specs.Asks.{Query, query, walk_query, phase_query}
-use Rattle.free_model.proofs.Ways.{KinLabel, one, adds, said, reply_to, WayMove, WayAsk, way_ask, rack_by, Agree}
+use Rattle.free_model.proofs.Ways.{KinLabel, one, adds, reply_to, WayMove, WayAsk, way_ask, rack_by, Agree}
 
 -- where no driver is asked
 pub plain : {F T : Type 0} (rack other : List Driver) (x : Move F T) → x.core.rack ≡ rack → WayMove None rack other x (record { label = x.label; core = set_rack other x.core; frame = x.frame; beside = x.beside })
@@ -40,7 +41,7 @@ by_ask q rack t f x y labels cores pure h =
 
 -- Starts ---------------------------------------------------------------------------------
 
-add_label : (c : Core) (node : Node) (d : ℕ) (ds : List ℕ) (answer : Answer) → (add_driver c node d ds answer).label ≡ Label.Add node.path (name_of c.rack d) (said answer)
+pub add_label : (c : Core) (node : Node) (d : ℕ) (ds : List ℕ) (answer : Answer) → (add_driver c node d ds answer).label ≡ Label.Add node.path (name_of c.rack d) (said answer)
 add_label c node d ds Ok = refl
 add_label c node d ds Fail = refl
 add_label c node d ds Pend = refl

@@ -16,15 +16,10 @@ use Rattle.pnp_model.specs.Walks.{after, shown_of, shown_fail, may_fail}
 use Rattle.pnp_model.specs.Frames.{Move, Ask, asked, ask_driver, next_driver}
 use Rattle.pnp_model.specs.Records.{Node, Core, Driver, Walk, Step}
 use Rattle.free_model.specs.Frees.{with_rack}
+use Rattle.free_model.specs.Asking.{said}
 use Rattle.free_model.specs.Asks.{Query, query}
 use Rattle.free_model.proofs.Racks.{same_names}
 use Rattle.free_model.specs.Shapes.{faces}
-
--- AddDevice is answered well or not
-abbrev pub said : Answer → Bool
-said Ok = true
-said Fail = false
-said Pend = false
 
 -- one label, or two that tell these two answers to one ask
 pub data KinLabel (a b : Answer) : Label → Label → Type 0 where

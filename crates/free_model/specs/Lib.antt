@@ -1,5 +1,6 @@
 pub mod Frees
 pub mod Asks
+pub mod Asking
 pub mod Checks
 pub mod Shapes
 pub mod Outputs

@@ -1,5 +1,6 @@
 //! What holds of the check of traces.
 
+ghost use Rattle.free_model.specs.Asking.{EachStepAsks, QuietAsksNobody};
 ghost use Rattle.free_model.specs.Laws.{OnePlace, OneVerdict, ComputedLaw};
 ghost use Rattle.free_model.specs.Outputs.{EachOutputIsARun, EachRunIsAnOutput};
 ghost use Rattle.free_model.specs.Runs.{EachFreeRunIsARun};
@@ -39,4 +40,16 @@ pub fn each_free_run_is_a_run()
 #[tactic(auto, using(crate::proofs::Refused::computed_verdict))]
 pub fn computes_verdicts()
     ensures { ComputedLaw }
+{}
+
+/// Each step asks whom it is to ask: the driver that is told before it, for its device and once; and where none is told, nobody.
+#[tactic(auto, using(crate::proofs::AskSteps::each_step_asks))]
+pub fn each_step_asks()
+    ensures { EachStepAsks }
+{}
+
+/// Where no step is next nobody is to be asked.
+#[tactic(auto, using(crate::proofs::AskSteps::quiet_asks_nobody))]
+pub fn quiet_asks_nobody()
+    ensures { QuietAsksNobody }
 {}

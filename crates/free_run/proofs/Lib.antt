@@ -2,3 +2,5 @@ mod Tellers
 mod Events
 mod Steps
 mod Names
+mod Owns
+mod Lines

@@ -4,7 +4,7 @@ use Rattle.inf_reader.specs.declared.parts.Inf.{Inf}
 use Rattle.pnp_labels.specs.declared.event.Event.{Event}
 use Rattle.pnp_labels.specs.declared.label.Label.{Label}
 use Rattle.pnp_labels.specs.declared.words.Answer.{Answer}
-use Rattle.pnp_model.specs.Machine.{IsQuiet}
+use Rattle.pnp_model.specs.Machine.{IsQuiet, Steps}
 use Rattle.pnp_model.specs.Records.{Settings, State, Step}
 use Rattle.start_sequence.specs.Begins.{settings_of}
 use Rattle.free_model.specs.Frees.{StepsBy}
@@ -26,6 +26,11 @@ settings f = settings_of f.infs f.budget
 abbrev pub MovesBy : Answer → Settings → State → Option Label → State → Type 0
 MovesBy answer told old (Some label) new = StepsBy answer told old label new
 MovesBy answer told old None new = IsQuiet told old × (new ≡ old)
+
+-- a step by the books, or none is next
+abbrev pub MovesOwn : Settings → State → Option Label → State → Type 0
+MovesOwn told old (Some label) new = Steps told old label new
+MovesOwn told old None new = IsQuiet told old × (new ≡ old)
 
 -- at most 64 IDs of each sort
 abbrev pub HasFewIds : Event → Type 0

@@ -1,18 +1,23 @@
-ghost use Rattle.std.specs.Prelude.{◌≡◌, ◌<◌, ◌≤◌, ◌^◌, IfOk, OnErr, length};
+ghost use Rattle.std.specs.Prelude.{◌≡◌, ◌<◌, ◌≤◌, ◌^◌, IfOk, IfSome, OnErr, Some, length, option_map};
+ghost use Rattle.pnp_model.specs.Cores.{node_at};
 ghost use Rattle.pnp_model.specs.Endings.{ending, joined};
 ghost use Rattle.pnp_model.specs.Events.{happens};
 ghost use Rattle.pnp_model.specs.Machine.{IsQuiet};
+ghost use Rattle.pnp_laws.specs.Stacks.{IsNamed};
+ghost use Rattle.driver_rack.specs.Rows.{name_in};
+ghost use Rattle.free_model.specs.Asks.{next_query};
 ghost use Rattle.free_model.specs.Frees.{free_opening};
-ghost use Rattle.free_run.specs.FreeRuns.{settings, MovesBy, HasFewIds, HasHappened, IfQuiet};
+ghost use Rattle.pnp_machine.specs.Queries.{query_of};
+ghost use Rattle.free_run.specs.FreeRuns.{settings, MovesBy, MovesOwn, HasFewIds, HasHappened, IfQuiet};
 
 use crate::driver::FreeDriver;
 use crate::racks::own_rack;
 use crate::told::ToldRacks;
-use device_ids::WantOfMemory;
+use device_ids::{Text, WantOfMemory};
 use driver_rack::Rack;
 use inf_reader::Inf;
 use pnp_labels::{Answer, DriverKind, Event, Label};
-use pnp_machine::Manager;
+use pnp_machine::{Manager, Query};
 use std::alloc::Global;
 use std::marker::Model;
 
@@ -92,6 +97,33 @@ impl FreeRun {
         ensures err { OnErr result (self.new ≡ self.old) }
     {
         self.told.step(answer, &mut self.manager)
+    }
+
+    /// The step in which drivers answer by their books, of which one loses a use, exactly as the machine's definition says; none exactly where
+    /// no step is next, and then nothing changes. After want of memory all is as before. Cost: that of the step.
+    pub fn step_own(&mut self) -> Result<Option<Label>, WantOfMemory>
+        ensures moves { IfOk result (λ label. MovesOwn (settings self.old) self.old.state label self.new.state) }
+        ensures same { self.new ≡ record self.old { state = self.new.state } }
+        ensures err { OnErr result (self.new ≡ self.old) }
+    {
+        self.told.step_own(&mut self.manager)
+    }
+
+    /// What the next step asks, of which driver and for which device, as `Manager::query` says; none exactly where it asks nobody, or none
+    /// is next. It takes no memory. Cost: as `Manager::query`.
+    pub fn query(&self) -> Option<Query<'_>>
+        ensures query { option_map query_of result ≡ next_query self.now.state }
+        ensures node { IfSome result (λ query. node_at query.node.now.serial self.now.state.core.nodes ≡ Some query.node.now) }
+        ensures named { IfSome result (λ query. IsNamed self.now.state.core.rack query.driver) }
+    {
+        self.manager.query()
+    }
+
+    /// The name of a driver, by its number, as it was given; none exactly where the number names no driver with a name. It takes no memory.
+    pub fn driver_name(&self, driver: u32) -> Option<&Text>
+        ensures { option_map (λ text. text.now) result ≡ name_in self.now.state.core.rack driver }
+    {
+        self.manager.driver_name(driver)
     }
 
     /// The end of the output: the tree, what is held, the requests that are outstanding, and the handles that are open. Cost: as

@@ -5,7 +5,7 @@ ghost use Rattle.start_sequence.specs.Begins.{settings_of};
 ghost use Rattle.free_model.specs.Frees.{new_driver};
 ghost use Rattle.pnp_machine.specs.Machines.{HasFewIds, IsDone};
 ghost use Rattle.pnp_machine.specs.Managers.{settings};
-ghost use Rattle.free_run.specs.FreeRuns.{MovesBy};
+ghost use Rattle.free_run.specs.FreeRuns.{MovesBy, MovesOwn};
 ghost use Rattle.free_run.specs.Racks.{named_all, list_of};
 ghost use Rattle.free_run.specs.ToldRacks.{AreAlike, AreTold, AreUp, IsTold, MovesTold};
 
@@ -169,5 +169,23 @@ impl ToldRacks {
     {
         self.catch_up()?;
         self.step_up(answer, manager)
+    }
+
+    /// The step of the machine in which drivers answer by their books; none exactly where none is next. The drivers of the racks stay as
+    /// they are. After want of memory the machine is as before.
+    pub(crate) fn step_own(
+        &self,
+        manager: &mut Manager<Rack<FreeDriver>>,
+    ) -> Result<Option<Label>, WantOfMemory>
+        requires { AreTold manager.old.state.core.rack self.now }
+        ensures moves { IfOk result (λ label. MovesOwn (settings_of manager.old.infs manager.old.budget) manager.old.state label manager.new.state) }
+        ensures same { manager.new ≡ record manager.old { state = manager.new.state } }
+        ensures told { AreTold manager.new.state.core.rack self.now }
+        ensures err { OnErr result (manager.new ≡ manager.old) }
+    {
+        match manager.step()? {
+            Moved::Label(label) => Ok(Some(label)),
+            Moved::Quiet => Ok(None),
+        }
     }
 }

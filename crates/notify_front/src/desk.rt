@@ -1,10 +1,13 @@
-ghost use Rattle.std.specs.Prelude.{◌≡◌, ◌<◌, ◌^◌, true, Some, IfOk, OnOk, OnErr, IsSome};
+ghost use Rattle.std.specs.Prelude.{◌≡◌, ◌<◌, ◌^◌, true, Some, IfOk, IfSome, OnOk, OnErr, IsSome, option_map};
 ghost use Rattle.pnp_model.specs.Cores.{node_at};
 ghost use Rattle.pnp_model.specs.Machine.{IsQuiet, due, is_in_order};
 ghost use Rattle.pnp_model.specs.Runs.{opening};
+ghost use Rattle.pnp_laws.specs.Stacks.{IsNamed};
 ghost use Rattle.pnp_machine.specs.Machines.{HasFewIds};
+ghost use Rattle.pnp_machine.specs.Queries.{query_of};
 ghost use Rattle.notify_front.specs.Fronts.{Hand, front_happens, on_set};
 ghost use Rattle.notify_front.specs.Desks.{FrontMoves, IfFrontQuiet, IsAlone, IsFrontDone, IsOfFrontRun, front_of, machine_events, opening_desk, told_of};
+ghost use Rattle.notify_front.specs.Queries.{front_query};
 ghost use Rattle.notify_front.specs.Hands.{AllCancelled, IsBegun, IsRunning, IsTurn, begins, next_told};
 
 use crate::registration::Registration;
@@ -13,7 +16,7 @@ use crate::round::{Round, Turn};
 use device_ids::WantOfMemory;
 use driver_rack::Drivers;
 use pnp_labels::{Event, Label, OpKind};
-use pnp_machine::{Manager, Moved};
+use pnp_machine::{Manager, Moved, Query};
 use std::alloc::Global;
 use std::marker::Model;
 
@@ -96,6 +99,18 @@ impl<R: Drivers> Desk<R> {
         match self.round.turn() {
             Turn::Tell | Turn::Decline(_, _) => false,
             Turn::Idle | Turn::Begin | Turn::Run => self.manager.is_quiet(),
+        }
+    }
+
+    /// What the next step asks: nobody where a client is told, or what is due is dropped.
+    pub(crate) fn query(&self) -> Option<Query<'_>>
+        ensures query { option_map query_of result ≡ front_query (front_of self.now) }
+        ensures node { IfSome result (λ query. node_at query.node.now.serial self.now.manager.state.core.nodes ≡ Some query.node.now) }
+        ensures named { IfSome result (λ query. IsNamed self.now.manager.state.core.rack query.driver) }
+    {
+        match self.round.turn() {
+            Turn::Tell | Turn::Decline(_, _) => None,
+            Turn::Idle | Turn::Begin | Turn::Run => self.manager.query(),
         }
     }
 

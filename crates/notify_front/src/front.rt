@@ -1,17 +1,21 @@
-ghost use Rattle.std.specs.Prelude.{◌≡◌, ◌<◌, ◌^◌, ◌++◌, IfOk, OnOk, OnErr};
+ghost use Rattle.std.specs.Prelude.{◌≡◌, ◌<◌, ◌^◌, ◌++◌, IfOk, IfSome, OnOk, OnErr, Some, option_map};
 ghost use Rattle.pnp_laws.specs.Printed.{TreeIsPrinted};
+ghost use Rattle.pnp_laws.specs.Stacks.{IsNamed};
 ghost use Rattle.pnp_machine.specs.Machines.{HasFewIds};
+ghost use Rattle.pnp_machine.specs.Queries.{query_of};
+ghost use Rattle.pnp_model.specs.Cores.{node_at};
 ghost use Rattle.pnp_model.specs.Endings.{ending, joined};
 ghost use Rattle.pnp_model.specs.Runs.{opening};
 ghost use Rattle.notify_front.specs.Fronts.{IsFrontQuiet, front_happens};
 ghost use Rattle.notify_front.specs.Desks.{IsAtStart, IsFrontDone, IsOfFrontRun, IfFrontQuiet, FrontLawsOf, FrontMoves, front_of, machine_events, opening_desk, told_of};
+ghost use Rattle.notify_front.specs.Queries.{front_query};
 
 use crate::desk::Desk;
 use device_ids::WantOfMemory;
 use devnode_tree::Tree;
 use driver_rack::Drivers;
 use pnp_labels::{Event, Label};
-use pnp_machine::{EndParts, Manager, Moved, needs_are_few};
+use pnp_machine::{EndParts, Manager, Moved, Query, needs_are_few};
 use std::alloc::Global;
 use std::marker::Model;
 
@@ -100,6 +104,16 @@ impl<R: Drivers> Front<R> {
         ensures { IfFrontQuiet result (told_of self.now) (front_of self.now) }
     {
         self.desk.is_quiet()
+    }
+
+    /// What the next step asks, of which driver and for which device; none exactly where the next step asks nobody, as where a
+    /// client is told, or none is next. It takes no memory. Cost: as `Manager::query`.
+    pub fn query(&self) -> Option<Query<'_>>
+        ensures query { option_map query_of result ≡ front_query (front_of self.now) }
+        ensures node { IfSome result (λ query. node_at query.node.now.serial self.now.manager.state.core.nodes ≡ Some query.node.now) }
+        ensures named { IfSome result (λ query. IsNamed self.now.manager.state.core.rack query.driver) }
+    {
+        self.desk.query()
     }
 
     /// The device nodes.

@@ -15,6 +15,8 @@ pub mod SameLaws
 pub mod RunLaws
 pub mod Groups
 pub mod Turns
+pub mod Queries
+pub mod Named
 pub mod EndLines
 pub mod ActSteps
 pub mod BeginSteps

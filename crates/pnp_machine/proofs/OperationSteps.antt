@@ -116,12 +116,14 @@ module _ (s : State) (run : IsOfRun s) (o : Job) (runs : s.operation ≡ Some o)
       record {
         root = λ m path born e b. let h = ejects s.core o s.handles in_world m e path born b in settled_born m born h (h.ejects path born b);
         new = λ m path e b.
-        let h = disables s.core o s.handles in_world m e path b in
-        let own = h.disables path b in
-        let found = set ∙ settled_is s.core o m.beside h own.1 in
-        let one = one_rack s run in
-        (found ∙ ap Some (sym own.0), subst (λ x. IsNewPath x s.disabled) (sym found)
-        (settles_new one.told one.rack one.entries (with_rack one.here s) one.reaches o h.node runs course h.stage h.first own.1 own.2));
+            let h = disables s.core o s.handles in_world m e path b in
+            let own = h.disables path b in
+            let found = set ∙ settled_is s.core o m.beside h own.1 in
+            let one = one_rack s run in (
+              found ∙ ap Some (sym own.0),
+              subst (λ x. IsNewPath x s.disabled) (sym found)
+                  (settles_new one.told one.rack one.entries (with_rack one.here s) one.reaches o h.node runs course h.stage h.first own.1 own.2),
+            );
       }
 
 -- in a surprise removal and its end

@@ -94,7 +94,7 @@ module _ (a b : List Driver) (shown : faces a ≡ faces b) where
   name_same : (d : ℕ) (name : Text) → HasName a d name → HasName b d name
   name_same d name h = by_face b d ∙ ap (λ (fs : List Face). name_in_face (slice_get fs d)) (sym shown) ∙ sym (by_face a d) ∙ h
 
-  all_named_same : (ds : List ℕ) → AllNamed a ds → AllNamed b ds
+  pub all_named_same : (ds : List ℕ) → AllNamed a ds → AllNamed b ds
   all_named_same [] h = tt
   all_named_same (d ∷ ds) ((name, named), more) = ((name, name_same d name named), all_named_same ds more)
 

@@ -10,3 +10,4 @@ pub mod Endings
 pub mod Ids
 pub mod Managers
 pub mod Dues
+pub mod Queries

@@ -1,4 +1,4 @@
-ghost use Rattle.std.specs.Prelude.{◌≡◌, ◌<◌, ◌≤◌, ◌+◌, ◌++◌, ◌^◌, ℕ, [], true, IfOk, OnOk, OnErr, IsSome, IsSomeAnd, is_some, length, option_map};
+ghost use Rattle.std.specs.Prelude.{◌≡◌, ◌<◌, ◌≤◌, ◌+◌, ◌++◌, ◌^◌, ℕ, [], true, IfOk, IfSome, OnOk, OnErr, IsSome, IsSomeAnd, Some, is_some, length, option_map};
 ghost use Rattle.pnp_model.specs.Cores.{node_at};
 ghost use Rattle.pnp_model.specs.Endings.{ending, joined};
 ghost use Rattle.pnp_model.specs.Events.{happens};
@@ -7,17 +7,22 @@ ghost use Rattle.pnp_model.specs.Runs.{opening};
 ghost use Rattle.pnp_model.specs.States.{drop_task};
 ghost use Rattle.pnp_model.specs.Trees.{leaving};
 ghost use Rattle.pnp_laws.specs.Printed.{TreeIsPrinted};
+ghost use Rattle.pnp_laws.specs.Stacks.{IsNamed};
 ghost use Rattle.devnode_tree.specs.Trees.{Tree};
+ghost use Rattle.driver_rack.specs.Rows.{name_in};
+ghost use Rattle.free_model.specs.Asks.{next_query};
 ghost use Rattle.free_model.specs.Frees.{with_rack};
 ghost use Rattle.free_model.specs.Shapes.{faces};
 ghost use Rattle.pnp_machine.specs.Dues.{beginning_of};
 ghost use Rattle.pnp_machine.specs.Machines.{IsDone, Moves, HasFewIds};
 ghost use Rattle.pnp_machine.specs.Managers.{settings, IsRunOf, KeepsFacts, KeepsLaws, LawsOf, IfQuiet};
+ghost use Rattle.pnp_machine.specs.Queries.{query_of};
 
 use crate::ending::EndParts;
 use crate::machine::Machine;
 use crate::needs::needs_are_few;
-use device_ids::WantOfMemory;
+use crate::query::Query;
+use device_ids::{Text, WantOfMemory};
 use devnode_tree::Tree;
 use driver_rack::Drivers;
 use inf_reader::Inf;
@@ -153,6 +158,26 @@ impl<R: Drivers> Manager<R> {
         ensures { IfQuiet result (settings self.now) self.now.state }
     {
         self.machine.is_quiet()
+    }
+
+    /// What the next step asks, of which driver and for which device; none exactly where the next step asks nobody, or none is
+    /// next. A step asks one driver at most, once, and one that has a name. It takes no memory. Cost: the logarithms of the numbers of nodes, of starts
+    /// and of devices with an open handle; where a surprise removal comes to a device also what depends directly on it, and
+    /// where the end of surprise removals takes its next device that of `surprise_remove::ready`.
+    pub fn query(&self) -> Option<Query<'_>>
+        ensures query { option_map query_of result ≡ next_query self.now.state }
+        ensures node { IfSome result (λ query. node_at query.node.now.serial self.now.state.core.nodes ≡ Some query.node.now) }
+        ensures named { IfSome result (λ query. IsNamed self.now.state.core.rack query.driver) }
+    {
+        self.machine.query()
+    }
+
+    /// The name of a driver, by its number in the rack, as it was given; none exactly where the number names no driver with a
+    /// name. It takes no memory.
+    pub fn driver_name(&self, driver: u32) -> Option<&Text>
+        ensures { option_map (λ text. text.now) result ≡ name_in self.now.state.core.rack driver }
+    {
+        self.machine.rack.name_of(driver)
     }
 
     /// The operation that the next step begins, and for which device; none exactly where the next step begins none: an

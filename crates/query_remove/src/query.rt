@@ -1,11 +1,12 @@
-ghost use Rattle.std.specs.Prelude.{◌≡◌, IfOk, OnErr, IsSome, None, false};
+ghost use Rattle.std.specs.Prelude.{◌≡◌, IfOk, OnErr, IsSome, None, false, option_map};
 ghost use Rattle.pnp_model.specs.Frames.{first_node};
 ghost use Rattle.pnp_model.specs.Removals.{refuses_unasked, declines, queried};
 ghost use Rattle.pnp_model.specs.Records as Records;
-ghost use Rattle.pnp_model.specs.Records.{Course};
+ghost use Rattle.pnp_model.specs.Records.{Course, course_of};
 ghost use Rattle.device_holdings.specs.Mirrors.{IsMirrored, KeepsMirror};
 ghost use Rattle.pnp_labels.specs.declared.label.RemoveStep.TheVariants as steps;
 ghost use Rattle.operation_frame.specs.Steps.{Moved, MovesFor, JobSteps};
+ghost use Rattle.query_remove.specs.Requests.{begun_query, request};
 
 use crate::frame::{Removal, Stage};
 use device_ids::WantOfMemory;
@@ -39,6 +40,31 @@ impl Removal {
         self.todo = told;
         self.cancel_next();
         Ok(Label::Handles { path })
+    }
+
+    /// The query with which the device that is next is asked; none where it refuses unasked.
+    fn next_query(&self, tree: &Tree, handles: &Handles) -> Option<Walk>
+        ensures { option_map (λ w. w.walk) result ≡ begun_query handles.now (first_node tree.now.nodes self.now.todo) }
+    {
+        let node = tree.node(self.todo.get(0)?)?;
+        if refuses_unasked(handles, node) {
+            return None;
+        }
+        Some(Walk::begin(Minor::QueryRemove))
+    }
+
+    /// The request of which the next step is: the one that is on its way to the device that is next, also where it waits, or
+    /// the query with which the device is asked; none exactly where the step is of no request. It takes no memory. Cost: the
+    /// logarithms of the numbers of nodes and of devices with an open handle.
+    pub fn request(&self, tree: &Tree, handles: &Handles) -> Option<Walk>
+        ensures request { option_map (λ w. w.walk) result ≡ request handles.now self.now self.now.walk (first_node tree.now.nodes self.now.todo) }
+        ensures course { course_of self.now.kind ≡ Course.Removing }
+    {
+        match self.stage {
+            Stage::Settling | Stage::Ending => None,
+            Stage::Next => self.next_query(tree, handles),
+            _ => Some(self.walk),
+        }
     }
 
     /// The query of the device that is next begins.

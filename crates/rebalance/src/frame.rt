@@ -2,7 +2,7 @@ ghost use Rattle.std.specs.Prelude.{◌≡◌, [], Some, None, slice_get, option
 ghost use Rattle.pnp_model.specs.Frames.{rest};
 ghost use Rattle.pnp_model.specs.Jobs.{begins, stands, each_gets};
 ghost use Rattle.pnp_model.specs.Records as Records;
-ghost use Rattle.pnp_model.specs.Records.{Course};
+ghost use Rattle.pnp_model.specs.Records.{Course, course_of};
 ghost use Rattle.pnp_model.specs.Rebalances.{ask_on, cancel_on, cancelled, stop_on, restart_on, has_refused};
 ghost use Rattle.pnp_laws.specs.Kept.{asked_in};
 ghost use Rattle.device_stack.specs.Waiting.{minor_of};
@@ -134,6 +134,15 @@ impl Rebalance {
             | Stage::Restarting => Some(&self.walk),
             _ => None,
         }
+    }
+
+    /// The request of which the next step is: the one that is on its way to the device that is next, also where it waits; none
+    /// exactly where the step is of no request.
+    pub fn request(&self) -> Option<Walk>
+        ensures request { option_map (λ w. w.walk) result ≡ self.now.walk }
+        ensures course { course_of self.now.kind ≡ Course.Rebalancing }
+    {
+        self.walk().copied()
     }
 
     /// The device that it is for.

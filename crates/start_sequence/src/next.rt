@@ -206,8 +206,9 @@ fn trouble(
 }
 
 impl StartWork {
-    /// The driver that is to be asked next to add the device.
-    fn first_pending(&self) -> Option<u32>
+    /// The driver that the next step asks to add the device, by its number in the rack; none exactly where it asks none to add
+    /// it. What else a start asks is of the request that is on its way.
+    pub fn first_pending(&self) -> Option<u32>
         ensures { result ≡ first_pending self.now.phase }
     {
         match &self.phase {

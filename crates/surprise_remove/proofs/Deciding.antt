@@ -20,11 +20,12 @@ use Rattle.pnp_laws.proofs.Lookups.{own_serial}
 use Rattle.devnode_tree.specs.Cores.{at_related}
 use Rattle.relations.specs.Leaving.{base, below}
 use Rattle.relations.proofs.Bases.{dependents_same}
-use Rattle.operation_frame.specs.Nodes.{IsStripped}
+use Rattle.operation_frame.specs.Nodes.{IsStripped, has_drivers, is_full}
 use Rattle.operation_frame.specs.Steps.{Moved, MovedBy, MovesFor, JobSteps}
 use Rattle.operation_frame.proofs.Queues.{first_is}
 use Rattle.surprise_remove.specs.Steps.{DirectSays, SettlesStripped, has_behind, stays}
 use Rattle.surprise_remove.specs.Parts.{finishing, finishing_with}
+use Rattle.surprise_remove.specs.Requests.{begun_removal, removal_unless}
 
 -- one that is finished stands as the stage of its own has it
 begins_so : (c : Core) (o : Job) (in_world : Bool) (handles : List Handle) (n : Node) (stack : List ℕ) → n.stack ≡ stack
@@ -42,13 +43,38 @@ same_todo : (o : Job) (stack : List ℕ) → (finishing_with o stack).todo ≡ o
 same_todo o [] = refl
 same_todo o (d ∷ ds) = refl
 
-module _ (nodes : List Node) (rs : List Relation) (o : Job) (in_world : Bool) (handles : List Handle) (stage : o.stage ≡ Stage.Next) (none : o.walk ≡ None) (direct : DirectSays nodes rs o Stage.Next) where
+module _ (nodes : List Node) (rs : List Relation) (o : Job) (handles : List Handle) (direct : DirectSays nodes rs o Stage.Next) where
   -- what the machine asks of all dependents is told by the direct ones
   stays_is : (around : Core) (n : Node) → first_node nodes o.todo ≡ Some n → stays_behind (at_related nodes rs around) o handles n.serial ≡ stays nodes rs o handles n.serial
   stays_is around n first =
       let says = subst (λ (x : Option Node). IfSome x (λ n. has_behind o (dependents (base nodes rs) n.serial) ≡ has_behind o (below nodes rs n.serial))) first direct in
       ap (λ b. has o.told n.serial || (is_open handles n.serial || b)) (ap (has_behind o) (dependents_same nodes rs around n.serial) ∙ says)
 
+  -- its drivers are removed with the next step, or it has none, or stays behind
+  pub removed_so : (around : Core) (k : ℕ) (full behind : Bool) → slice_get o.todo 0 ≡ Some k → full ≡ has_drivers (node_at k nodes) → behind ≡ stays nodes rs o handles k
+      → (if full then (if behind then None else Some (walk_of Minor.Remove)) else None) ≡ begun_removal (at_related nodes rs around) o handles (first_node nodes o.todo)
+  removed_so around k full behind first drivers stay =
+      subst (λ (x : Option Node). (if full then (if behind then None else Some (walk_of Minor.Remove)) else None) ≡ begun_removal (at_related nodes rs around) o handles x) (sym at) (by (node_at k nodes) refl full drivers)
+    where
+      at : first_node nodes o.todo ≡ node_at k nodes
+      at = first_is nodes o.todo k first
+
+      of_stack : (stack : List ℕ) (b c : Bool) → b ≡ is_full stack → (if b then (if c then None else Some (walk_of Minor.Remove)) else None) ≡ removal_unless c stack
+      of_stack [] true c e = absurd (cc)
+      of_stack [] false true e = refl
+      of_stack [] false false e = refl
+      of_stack (d ∷ ds) true true e = refl
+      of_stack (d ∷ ds) true false e = refl
+      of_stack (d ∷ ds) false c e = absurd (cc)
+
+      by : (x : Option Node) → node_at k nodes ≡ x → (b : Bool) → b ≡ has_drivers x → (if b then (if behind then None else Some (walk_of Minor.Remove)) else None) ≡ begun_removal (at_related nodes rs around) o handles x
+      by None e true drivers = absurd (cc)
+      by None e false drivers = refl
+      by (Some n) e b drivers =
+          of_stack n.stack b behind drivers
+          ∙ ap (λ (c : Bool). removal_unless c n.stack) (stay ∙ sym (ap (stays nodes rs o handles) (own_serial k n nodes e)) ∙ sym (stays_is around n (at ∙ e)))
+
+module _ (nodes : List Node) (rs : List Relation) (o : Job) (in_world : Bool) (handles : List Handle) (stage : o.stage ≡ Stage.Next) (none : o.walk ≡ None) (direct : DirectSays nodes rs o Stage.Next) where
   -- the step of the machine, for the device that is next
   decided : (around : Core) (n : Node) (b : Bool) → first_node nodes o.todo ≡ Some n → stays nodes rs o handles n.serial ≡ b
       → job_step (at_related nodes rs around) o Course.Surprising in_world handles o.walk (first_node nodes o.todo) ≡ Some (Does (finish (at_related nodes rs around) o n in_world b))
@@ -57,7 +83,7 @@ module _ (nodes : List Node) (rs : List Relation) (o : Job) (in_world : Bool) (h
       ap (λ v. job_step c o Course.Surprising in_world handles v (first_node nodes o.todo)) none
       ∙ (ap (λ x. job_step c o Course.Surprising in_world handles None x) first
       ∙ (ap (λ t. option_map (λ m. Does m) (acts c o in_world handles t (Some n))) stage
-      ∙ ap (λ b. Some (Does (finish c o n in_world b))) (stays_is around n first ∙ is)))
+      ∙ ap (λ b. Some (Does (finish c o n in_world b))) (stays_is nodes rs o handles direct around n first ∙ is)))
 
   module _ (k : ℕ) (first : slice_get o.todo 0 ≡ Some k) (there : IsSome (first_node nodes o.todo)) where
     -- the device that is next

@@ -4,3 +4,4 @@ pub mod Parts
 pub mod FinishStages
 pub mod FinishSteps
 pub mod Ready
+pub mod Requests

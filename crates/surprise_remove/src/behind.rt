@@ -1,10 +1,11 @@
-ghost use Rattle.std.specs.Prelude.{◌≡◌, ◌&&◌, IfOk, OnErr, IsSome, None};
+ghost use Rattle.std.specs.Prelude.{◌≡◌, ◌&&◌, IfOk, OnErr, IsSome, None, option_map};
 ghost use Rattle.std.specs.List.{list_any};
 ghost use Rattle.pnp_model.specs.Tests.{has};
 ghost use Rattle.pnp_model.specs.Frames.{first_node};
-ghost use Rattle.pnp_model.specs.Records.{Course};
+ghost use Rattle.pnp_model.specs.Records.{Core, Course, course_of};
 ghost use Rattle.pnp_model.specs.Records.Stage.{Next};
 ghost use Rattle.pnp_model.specs.Surprises.{wait};
+ghost use Rattle.devnode_tree.specs.Cores.{at_related};
 ghost use Rattle.trial_journal.specs.ByKind as ByKind;
 ghost use Rattle.device_holdings.specs.Mirrors.{IsMirrored, KeepsMirror};
 ghost use Rattle.operation_frame.specs.Steps.{Moved, MovesFor, JobSteps};
@@ -12,6 +13,7 @@ ghost use Rattle.relations.specs.Leaving.{below, is_there};
 ghost use Rattle.pnp_labels.specs.declared.label.RemoveStep.TheVariants as steps;
 ghost use Rattle.surprise_remove.specs.Steps.{DirectSays, SettlesStripped, stays};
 ghost use Rattle.surprise_remove.specs.Parts.{finishing};
+ghost use Rattle.surprise_remove.specs.Requests.{begun_removal, request};
 
 use crate::frame::{Stage, Surprise};
 use device_ids::WantOfMemory;
@@ -59,6 +61,38 @@ impl Surprise {
         self.told.has(serial)
             || handles.is_open(serial)
             || has_below(&self.behind, tree, relations, serial)
+    }
+
+    /// The request with which the drivers of the device that is next are removed; none where it has none, or stays behind.
+    fn next_removal(&self, tree: &Tree, relations: &Relations, handles: &Handles) -> Option<Walk>
+        requires { DirectSays tree.now.nodes relations.now self.now Next }
+        ensures { (around : Core) → option_map (λ w. w.walk) result ≡ begun_removal (at_related tree.now.nodes relations.now around) self.now handles.now (first_node tree.now.nodes self.now.todo) }
+    {
+        let serial = self.todo.get(0)?;
+        if !has_drivers(tree, serial) {
+            return None;
+        }
+        if self.stays(tree, relations, handles, serial) {
+            return None;
+        }
+        Some(Walk::begin(Minor::Remove))
+    }
+
+    /// The request of which the next step is: the one that is on its way to the device that is next, also where it waits, or
+    /// the one with which its drivers are removed; none exactly where the step is of no request. Condition: where it is to be
+    /// decided whether the device stays behind, something that depends on it did only where something did that depends on it
+    /// directly. It takes no memory. Cost: the logarithm of the number of nodes, and where it is decided the number of its
+    /// children and of the members that are related to it.
+    pub fn request(&self, tree: &Tree, relations: &Relations, handles: &Handles) -> Option<Walk>
+        requires { DirectSays tree.now.nodes relations.now self.now self.now.stage }
+        ensures request { (around : Core) → option_map (λ w. w.walk) result ≡ request (at_related tree.now.nodes relations.now around) self.now handles.now self.now.walk (first_node tree.now.nodes self.now.todo) }
+        ensures course { course_of self.now.kind ≡ Course.Surprising }
+    {
+        match self.stage {
+            Stage::Settling | Stage::Ending => None,
+            Stage::Next => self.next_removal(tree, relations, handles),
+            _ => Some(self.walk),
+        }
     }
 
     /// The device that is next stays behind.

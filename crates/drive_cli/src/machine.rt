@@ -1,0 +1,104 @@
+ghost use Rattle.std.specs.Prelude.{◌≡◌};
+
+use device_ids::{Text, WantOfMemory};
+use free_run::FreeRun;
+use live_run::{LiveAsk, LiveDrivers, Machine, ask_words};
+use pnp_labels::{Answer, AskWhat, Event, Label, Minor, minor_text, push_res};
+use pnp_machine::Query;
+use resource_reqs::ResList;
+use std::alloc::Global;
+
+/// The machine of the program.
+pub(crate) struct ProgramMachine {
+    run: FreeRun,
+}
+
+impl Drop for ProgramMachine {
+    fn drop(self) {
+        let ProgramMachine { run: _ } = self;
+    }
+}
+
+/// Appends the resources that a device holds, each behind a blank.
+fn push_held(words: &mut Vec<u8>, held: &ResList) -> Result<(), WantOfMemory> {
+    for at in 0..held.len() {
+        words.push(b' ')?;
+        push_res(words, held.get(at))?;
+    }
+    Ok(())
+}
+
+/// The word of what is asked.
+fn what_text(what: AskWhat) -> &'static [u8] {
+    match what {
+        AskWhat::Add => b"add",
+        AskWhat::Irp(minor) => minor_text(minor),
+    }
+}
+
+/// The words of a query; a start tells what the device holds.
+fn query_words(alloc: Global, query: &Query<'_>, driver: &Text) -> Result<Vec<u8>, WantOfMemory> {
+    let node = query.node;
+    let mut words = ask_words(alloc, what_text(query.what), node.path.bytes(), driver)?;
+    if let AskWhat::Irp(Minor::Start) = query.what {
+        push_held(&mut words, &node.holds)?;
+    }
+    Ok(words)
+}
+
+/// The ask of a query of the driver of a name.
+fn ask_of(alloc: Global, query: &Query<'_>, driver: &Text) -> Result<LiveAsk, WantOfMemory> {
+    let words = query_words(alloc, query, driver)?;
+    let driver = driver.copy(alloc)?;
+    let may_pend = !matches!(query.what, AskWhat::Add);
+    Ok(LiveAsk {
+        words,
+        driver,
+        may_pend,
+    })
+}
+
+impl ProgramMachine {
+    /// The machine of a run.
+    pub(crate) fn new(run: FreeRun) -> ProgramMachine
+        ensures { result.run ≡ run }
+    {
+        ProgramMachine { run }
+    }
+}
+
+impl Machine for ProgramMachine {
+    ghost use Rattle.free_run.specs.FreeRuns.{settings};
+
+    ghost settings = { λ m. settings m.run };
+
+    ghost state = { λ m. m.run.state };
+
+    ghost events = { λ m. m.run.events };
+
+    fn live_ask(&self, alloc: Global, live: &LiveDrivers) -> Result<Option<LiveAsk>, WantOfMemory> {
+        let Some(query) = self.run.query() else {
+            return Ok(None);
+        };
+        match self.run.driver_name(query.driver) {
+            Some(driver) if live.has(driver) => Ok(Some(ask_of(alloc, &query, driver)?)),
+            _ => Ok(None),
+        }
+    }
+
+    fn step_by(&mut self, answer: Answer) -> Result<Option<Label>, WantOfMemory> {
+        self.run.step(answer)
+    }
+
+    fn step_own(&mut self) -> Result<Option<Label>, WantOfMemory> {
+        self.run.step_own()
+    }
+
+    fn apply(&mut self, event: Event) -> Result<Label, WantOfMemory> {
+        self.run.apply(event)
+    }
+
+    fn ending(&self, alloc: Global) -> Result<Vec<u8>, WantOfMemory> {
+        self.run.ending(alloc)
+    }
+}
