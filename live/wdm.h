@@ -1,0 +1,2 @@
+/* As the driver kit names it. */
+#include "pnp_shim.h"
