@@ -21,12 +21,12 @@ fn answer_text(answer: Answer) -> &'static [u8] {
 }
 
 /// Whether a driver of a device in this state may do so with a create request (Oney, on the states of a device): take it, refuse it or keep
-/// it for later.
+/// it for later. Of one that is NotStarted nothing is asked: where a driver above failed the start, those below had started.
 fn fits(state: DevState, answer: Answer) -> bool {
     match state {
         DevState::Started => !matches!(answer, Answer::Fail),
-        DevState::StopPending | DevState::RemovePending => true,
-        DevState::Stopped | DevState::NotStarted => !matches!(answer, Answer::Ok),
+        DevState::StopPending | DevState::RemovePending | DevState::NotStarted => true,
+        DevState::Stopped => !matches!(answer, Answer::Ok),
         DevState::SurpriseRemoved | DevState::NoStack => matches!(answer, Answer::Fail),
     }
 }
