@@ -1,7 +1,7 @@
-use Rattle.std.proofs.Common.{[], ◌∷◌, List, ℕ, Option, subst}
+use Rattle.std.proofs.Common.{List, ℕ, Option, subst}
 use Rattle.pnp_io.specs.Outside.{HoldsMore}
 use Rattle.pnp_cli.specs.Infs.{limit}
-use Rattle.view_cli.proofs.Reading.{named_taken, viewed_refused, large_script, large_inf}
+use Rattle.view_cli.proofs.Reading.{named_taken, large_script}
 use Rattle.view_cli.proofs.program.page_named.Goals as goal
 
 pub returns-in-Ok-clause-gives : goal.returns-in-Ok-clause-gives

@@ -1,8 +1,3 @@
-use Rattle.std.proofs.Common.{◌∙◌, ◌++◌, ◌∷◌, [], ap, sym, refl, append_assoc}
-use Rattle.std.proofs.lemmas.List.{take-append-drop}
-use Rattle.view_page.specs.declared.words.Part.{Part}
-use Rattle.view_page.specs.declared.words.Tag.{Tag}
-use Rattle.view_cli.specs.Viewed.{second_marks}
 use Rattle.view_cli.proofs.Viewing.{ended_by}
 use Rattle.view_cli.proofs.viewed.draw_ending.Goals as goal
 
