@@ -3,4 +3,4 @@ mod Events
 mod Steps
 mod Names
 mod Owns
-mod Lines
+mod Tries

@@ -1,6 +1,6 @@
 use Rattle.std.proofs.lemmas.Bool.Decides.{Decides-eqb}
 use Rattle.std.proofs.lemmas.Slice.Eq.{slice_eq-Decides}
-use Rattle.free_run.proofs.Lines.{line_so}
+use Rattle.free_run.proofs.Tries.{line_so}
 use Rattle.free_run.proofs.lines.is_same.Goals as goal
 
 pub returns : goal.returns
