@@ -3,4 +3,3 @@ mod Events
 mod Steps
 mod Names
 mod Owns
-mod Lines

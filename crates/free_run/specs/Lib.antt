@@ -1,4 +1,3 @@
 pub mod FreeRuns
 pub mod Racks
 pub mod ToldRacks
-pub mod Lines
