@@ -9,8 +9,9 @@ ghost use Rattle.pnp_cli.specs.Turns.{Awaits};
 ghost use Rattle.pnp_machine.specs.Managers.{settings};
 ghost use Rattle.notify_front.specs.Desks.{IsAtStart, front_of, told_of};
 ghost use Rattle.notify_front.specs.Fronts.{opening_front};
-ghost use Rattle.pnp_cli.specs.Lawful.{OfOutput, SomeRun, OfRun, EachState, EachStep, ByDiagram, NothingClashes, AllHoldWhole, OperationsBegan, EndsRestore, DependentsGoFirst, ConflictsAreReal, FewJoin, AllStatesTold, NodesAreKeyed, NothingOnItself, MapIsClear, AllStacksFit, NamesAreKnown, NobodyIsForgotten, EachPassed, EachHoldsPart, HeldInsideWindows, HandlesAreKept, FewAreHeld, NamesAreShown, TreeIsWhole, OfFrontRun, EachFrontStep, MachineRuns, ClientsWereAsked, ClientsHear, ClientsDecline, NoticesKeepAll, MachineAlone};
+ghost use Rattle.pnp_cli.specs.Lawful.{OfOutput, SomeRun, OfRun, EachState, EachStep, ByDiagram, NothingClashes, AllHoldWhole, OperationsBegan, EndsRestore, DependentsGoFirst, ConflictsAreReal, FewJoin, AllStatesTold, NodesAreKeyed, NothingOnItself, MapIsClear, AllStacksFit, NamesAreKnown, NobodyIsForgotten, EachPassed, EachHoldsPart, HeldInsideWindows, HandlesAreKept, FewAreHeld, NamesAreShown, TreeIsWhole, PromisesKept, KeptRunning, OfFrontRun, EachFrontStep, MachineRuns, ClientsWereAsked, ClientsHear, ClientsDecline, NoticesKeepAll, MachineAlone};
 ghost use Rattle.pnp_cli.specs.OwnTraces.{ChecksYes};
+ghost use Rattle.pnp_promises.specs.Endings.{EndTells};
 ghost use Rattle.pnp_cli.specs.Limits.{IsWithin};
 ghost use Rattle.driver_rack.specs.Rows.{unnamed};
 
@@ -292,34 +293,37 @@ pub fn run<F: Files, K: Sink>(
     ensures write_fault { result ≡ Status.WriteFault → Rose (K.faults sink.old) (K.faults sink.new) }
     ensures answered { Known (texts words.now) (F.contents files.old) (λ s told. Answers (Decides (map (λ b. unnamed (kind_of b) (book b)) rack.items) told s) (SomeRose (F.faults files.old) (F.faults files.new) (named s)) (Rose (K.faults sink.old) (K.faults sink.new)) result) }
     ensures tells { OfOutput SomeRun (texts words.now) (F.contents files.old) (map (λ b. unnamed (kind_of b) (book b)) rack.items) }
-    ensures diagram { OfOutput (EachStep ByDiagram) (texts words.now) (F.contents files.old) (map (λ b. unnamed (kind_of b) (book b)) rack.items) }
-    ensures sharing { OfOutput (EachState NothingClashes) (texts words.now) (F.contents files.old) (map (λ b. unnamed (kind_of b) (book b)) rack.items) }
-    ensures holdings { OfOutput (EachState AllHoldWhole) (texts words.now) (F.contents files.old) (map (λ b. unnamed (kind_of b) (book b)) rack.items) }
-    ensures restores { OfOutput (EachStep EndsRestore) (texts words.now) (F.contents files.old) (map (λ b. unnamed (kind_of b) (book b)) rack.items) }
-    ensures dependents { OfOutput (EachStep DependentsGoFirst) (texts words.now) (F.contents files.old) (map (λ b. unnamed (kind_of b) (book b)) rack.items) }
-    ensures conflicts { OfOutput (EachStep ConflictsAreReal) (texts words.now) (F.contents files.old) (map (λ b. unnamed (kind_of b) (book b)) rack.items) }
-    ensures begun { OfOutput (EachStep OperationsBegan) (texts words.now) (F.contents files.old) (map (λ b. unnamed (kind_of b) (book b)) rack.items) }
-    ensures joins { OfOutput (OfRun FewJoin) (texts words.now) (F.contents files.old) (map (λ b. unnamed (kind_of b) (book b)) rack.items) }
-    ensures told { OfOutput (EachStep AllStatesTold) (texts words.now) (F.contents files.old) (map (λ b. unnamed (kind_of b) (book b)) rack.items) }
-    ensures keys { OfOutput (EachState NodesAreKeyed) (texts words.now) (F.contents files.old) (map (λ b. unnamed (kind_of b) (book b)) rack.items) }
-    ensures acyclic { OfOutput (EachState NothingOnItself) (texts words.now) (F.contents files.old) (map (λ b. unnamed (kind_of b) (book b)) rack.items) }
-    ensures apart { OfOutput (EachState MapIsClear) (texts words.now) (F.contents files.old) (map (λ b. unnamed (kind_of b) (book b)) rack.items) }
-    ensures stacks { OfOutput (EachState AllStacksFit) (texts words.now) (F.contents files.old) (map (λ b. unnamed (kind_of b) (book b)) rack.items) }
-    ensures names { OfOutput (EachStep NamesAreKnown) (texts words.now) (F.contents files.old) (map (λ b. unnamed (kind_of b) (book b)) rack.items) }
-    ensures forgotten { OfOutput (EachState NobodyIsForgotten) (texts words.now) (F.contents files.old) (map (λ b. unnamed (kind_of b) (book b)) rack.items) }
-    ensures parts { OfOutput (EachState EachHoldsPart) (texts words.now) (F.contents files.old) (map (λ b. unnamed (kind_of b) (book b)) rack.items) }
-    ensures windows { OfOutput (EachState HeldInsideWindows) (texts words.now) (F.contents files.old) (map (λ b. unnamed (kind_of b) (book b)) rack.items) }
+    ensures follows_diagram { OfOutput (EachStep ByDiagram) (texts words.now) (F.contents files.old) (map (λ b. unnamed (kind_of b) (book b)) rack.items) }
+    ensures nothing_clashes { OfOutput (EachState NothingClashes) (texts words.now) (F.contents files.old) (map (λ b. unnamed (kind_of b) (book b)) rack.items) }
+    ensures all_hold_whole { OfOutput (EachState AllHoldWhole) (texts words.now) (F.contents files.old) (map (λ b. unnamed (kind_of b) (book b)) rack.items) }
+    ensures each_end_restores { OfOutput (EachStep EndsRestore) (texts words.now) (F.contents files.old) (map (λ b. unnamed (kind_of b) (book b)) rack.items) }
+    ensures dependents_first { OfOutput (EachStep DependentsGoFirst) (texts words.now) (F.contents files.old) (map (λ b. unnamed (kind_of b) (book b)) rack.items) }
+    ensures each_conflict_is_real { OfOutput (EachStep ConflictsAreReal) (texts words.now) (F.contents files.old) (map (λ b. unnamed (kind_of b) (book b)) rack.items) }
+    ensures operations_begin { OfOutput (EachStep OperationsBegan) (texts words.now) (F.contents files.old) (map (λ b. unnamed (kind_of b) (book b)) rack.items) }
+    ensures joins_are_limited { OfOutput (OfRun FewJoin) (texts words.now) (F.contents files.old) (map (λ b. unnamed (kind_of b) (book b)) rack.items) }
+    ensures states_are_told { OfOutput (EachStep AllStatesTold) (texts words.now) (F.contents files.old) (map (λ b. unnamed (kind_of b) (book b)) rack.items) }
+    ensures nodes_are_keyed { OfOutput (EachState NodesAreKeyed) (texts words.now) (F.contents files.old) (map (λ b. unnamed (kind_of b) (book b)) rack.items) }
+    ensures nothing_depends_on_itself { OfOutput (EachState NothingOnItself) (texts words.now) (F.contents files.old) (map (λ b. unnamed (kind_of b) (book b)) rack.items) }
+    ensures nothing_printed_clashes { OfOutput (EachState MapIsClear) (texts words.now) (F.contents files.old) (map (λ b. unnamed (kind_of b) (book b)) rack.items) }
+    ensures stacks_fit { OfOutput (EachState AllStacksFit) (texts words.now) (F.contents files.old) (map (λ b. unnamed (kind_of b) (book b)) rack.items) }
+    ensures names_are_known { OfOutput (EachStep NamesAreKnown) (texts words.now) (F.contents files.old) (map (λ b. unnamed (kind_of b) (book b)) rack.items) }
+    ensures nobody_is_forgotten { OfOutput (EachState NobodyIsForgotten) (texts words.now) (F.contents files.old) (map (λ b. unnamed (kind_of b) (book b)) rack.items) }
+    ensures each_holds_a_part { OfOutput (EachState EachHoldsPart) (texts words.now) (F.contents files.old) (map (λ b. unnamed (kind_of b) (book b)) rack.items) }
+    ensures held_inside_windows { OfOutput (EachState HeldInsideWindows) (texts words.now) (F.contents files.old) (map (λ b. unnamed (kind_of b) (book b)) rack.items) }
     ensures handles { OfOutput (EachState HandlesAreKept) (texts words.now) (F.contents files.old) (map (λ b. unnamed (kind_of b) (book b)) rack.items) }
-    ensures few { OfOutput (EachPassed FewAreHeld) (texts words.now) (F.contents files.old) (map (λ b. unnamed (kind_of b) (book b)) rack.items) }
+    ensures few_held { OfOutput (EachPassed FewAreHeld) (texts words.now) (F.contents files.old) (map (λ b. unnamed (kind_of b) (book b)) rack.items) }
     ensures shown { OfOutput (EachStep NamesAreShown) (texts words.now) (F.contents files.old) (map (λ b. unnamed (kind_of b) (book b)) rack.items) }
-    ensures tree { OfOutput (EachState TreeIsWhole) (texts words.now) (F.contents files.old) (map (λ b. unnamed (kind_of b) (book b)) rack.items) }
-    ensures machine { OfOutput (OfFrontRun MachineRuns) (texts words.now) (F.contents files.old) (map (λ b. unnamed (kind_of b) (book b)) rack.items) }
-    ensures asks { OfOutput (EachFrontStep ClientsWereAsked) (texts words.now) (F.contents files.old) (map (λ b. unnamed (kind_of b) (book b)) rack.items) }
-    ensures hears { OfOutput (OfFrontRun ClientsHear) (texts words.now) (F.contents files.old) (map (λ b. unnamed (kind_of b) (book b)) rack.items) }
-    ensures declines { OfOutput (EachFrontStep ClientsDecline) (texts words.now) (F.contents files.old) (map (λ b. unnamed (kind_of b) (book b)) rack.items) }
-    ensures notices { OfOutput (EachFrontStep NoticesKeepAll) (texts words.now) (F.contents files.old) (map (λ b. unnamed (kind_of b) (book b)) rack.items) }
-    ensures alone { OfOutput (OfFrontRun MachineAlone) (texts words.now) (F.contents files.old) (map (λ b. unnamed (kind_of b) (book b)) rack.items) }
-    ensures checks { OfOutput ChecksYes (texts words.now) (F.contents files.old) (map (λ b. unnamed (kind_of b) (book b)) rack.items) }
+    ensures each_node_is_printed_once { OfOutput (EachState TreeIsWhole) (texts words.now) (F.contents files.old) (map (λ b. unnamed (kind_of b) (book b)) rack.items) }
+    ensures promises { OfOutput (EachStep PromisesKept) (texts words.now) (F.contents files.old) (map (λ b. unnamed (kind_of b) (book b)) rack.items) }
+    ensures keeps { OfOutput (EachStep KeptRunning) (texts words.now) (F.contents files.old) (map (λ b. unnamed (kind_of b) (book b)) rack.items) }
+    ensures ending { OfOutput (EachState EndTells) (texts words.now) (F.contents files.old) (map (λ b. unnamed (kind_of b) (book b)) rack.items) }
+    ensures runs_the_machine { OfOutput (OfFrontRun MachineRuns) (texts words.now) (F.contents files.old) (map (λ b. unnamed (kind_of b) (book b)) rack.items) }
+    ensures asks_all_before { OfOutput (EachFrontStep ClientsWereAsked) (texts words.now) (F.contents files.old) (map (λ b. unnamed (kind_of b) (book b)) rack.items) }
+    ensures all_hear_the_result { OfOutput (OfFrontRun ClientsHear) (texts words.now) (F.contents files.old) (map (λ b. unnamed (kind_of b) (book b)) rack.items) }
+    ensures declined_by_a_client { OfOutput (EachFrontStep ClientsDecline) (texts words.now) (F.contents files.old) (map (λ b. unnamed (kind_of b) (book b)) rack.items) }
+    ensures notices_keep_the_core { OfOutput (EachFrontStep NoticesKeepAll) (texts words.now) (F.contents files.old) (map (λ b. unnamed (kind_of b) (book b)) rack.items) }
+    ensures same_without_clients { OfOutput (OfFrontRun MachineAlone) (texts words.now) (F.contents files.old) (map (λ b. unnamed (kind_of b) (book b)) rack.items) }
+    ensures each_output_is_a_trace { OfOutput ChecksYes (texts words.now) (F.contents files.old) (map (λ b. unnamed (kind_of b) (book b)) rack.items) }
 {
     run_over(alloc, words, rack, files, sink)
 }
