@@ -11,7 +11,7 @@ use Rattle.pnp_labels.specs.declared.words.DriverKind.{DriverKind}
 use Rattle.pnp_labels.specs.declared.label.Label.{Label}
 use Rattle.pnp_model.specs.Records as machines
 use Rattle.pnp_model.specs.Records.{Driver, State}
-use Rattle.pnp_model.specs.Runs.{Entry, printed, opening}
+use Rattle.pnp_model.specs.Runs.{Entry, Goes, printed, opening}
 use Rattle.pnp_model.specs.Runs.Entry.{Happens, Did, Declines}
 use Rattle.pnp_laws.specs.Stacks.{HasName, NamesDriver}
 use Rattle.pnp_laws.proofs.NamesGiven.{names_are_given}
@@ -35,6 +35,13 @@ use Rattle.pnp_laws.proofs.JoinLimits.{joins_are_limited}
 use Rattle.pnp_laws.specs.Needs.{IsEntryWithin, IsEventWithin}
 use Rattle.pnp_laws.proofs.NodesPlugged.{needs_are_within}
 use Rattle.pnp_laws.proofs.TreePrints.{each_node_is_printed_once}
+use Rattle.pnp_model.specs.Laws.{Reaches}
+use Rattle.pnp_promises.specs.Endings.{EndTells}
+use Rattle.pnp_promises.proofs.Asks.{asks_are_in_order}
+use Rattle.pnp_promises.proofs.Endings.{end_tells_what_is}
+use Rattle.pnp_promises.proofs.Events.{accepted_is_done, causes_are_exact, refused_changes_nothing}
+use Rattle.pnp_promises.proofs.Keeps.{running_keeps, tasks_are_in_turn}
+use Rattle.pnp_promises.proofs.Lines.{lines_mean_what_they_say}
 use Rattle.notify_front.specs.Fronts.{Front, FrontEntry, FrontStep, IsFrontQuiet, front_happens, front_printed, opening_front}
 use Rattle.notify_front.specs.Fronts.FrontEntry.{Passes, Tells, Watches}
 use Rattle.notify_front.specs.Notices.{FrontGoes, FrontRun, machine_part}
@@ -55,7 +62,7 @@ use Rattle.pnp_cli.specs.Infs.{infs_in}
 use Rattle.pnp_cli.specs.Runs.{IsOutput, IsOutputBy, IsOutputFor, IsOutputWith, IsScriptOutput, IsSummaryBy, machine, told_to}
 use Rattle.pnp_cli.specs.Contents.{events_of}
 use Rattle.pnp_cli.specs.Words.{settings_of}
-use Rattle.pnp_cli.specs.Lawful.{happened, events_in, IsStep, IsTold, Said, SomeRun, OfRun, EachPassed, EachState, EachStep, OfScript, OfInfs, OfMade, OfSource, OfOutput, ByDiagram, NothingClashes, AllHoldWhole, OperationsBegan, EndsRestore, DependentsGoFirst, ConflictsAreReal, FewJoin, AllStatesTold, NodesAreKeyed, NothingOnItself, MapIsClear, AllStacksFit, NamesAreKnown, NobodyIsForgotten, EachHoldsPart, HeldInsideWindows, HandlesAreKept, FewAreHeld, NamesAreShown, ShowsName, TreeIsWhole, OfFrontRun, EachFrontStep, MachineRuns, ClientsWereAsked, ClientsDecline, NoticesKeepAll, ClientsHear, MachineAlone}
+use Rattle.pnp_cli.specs.Lawful.{happened, events_in, IsStep, IsTold, Said, SomeRun, OfRun, EachPassed, EachState, EachStep, OfScript, OfInfs, OfMade, OfSource, OfOutput, ByDiagram, NothingClashes, AllHoldWhole, OperationsBegan, EndsRestore, DependentsGoFirst, ConflictsAreReal, FewJoin, AllStatesTold, NodesAreKeyed, NothingOnItself, MapIsClear, AllStacksFit, NamesAreKnown, NobodyIsForgotten, EachHoldsPart, HeldInsideWindows, HandlesAreKept, FewAreHeld, NamesAreShown, ShowsName, TreeIsWhole, PromisesKept, KeptRunning, OfFrontRun, EachFrontStep, MachineRuns, ClientsWereAsked, ClientsDecline, NoticesKeepAll, ClientsHear, MachineAlone}
 use Rattle.pnp_cli.specs.declared.infs.InfsError.{InfsError}
 use Rattle.pnp_cli.proofs.FewIds.{NamesByWord, names_by_words, script_within}
 use Rattle.pnp_cli.specs.declared.parts.Settings.{Settings}
@@ -269,6 +276,30 @@ output_handles words contents rack =
       open_handles_fit settings rack state.earlier s state.before,
       λ neither. (dependents_are_told settings rack state.earlier s state.before neither, ready_ones_are_due settings rack state.earlier s state.before neither),
     )) words contents
+
+promises_kept : (settings : machines.Settings) (rack : List Driver) (earlier : List Entry) (old : State) (entry : Entry) (new : State) → Reaches settings rack earlier old → Goes settings old entry new → PromisesKept settings rack earlier old entry new
+promises_kept settings rack earlier old (Happens event label) new before goes =
+    (refused_changes_nothing settings rack earlier old event label new before goes, causes_are_exact settings rack earlier old event label new before goes, accepted_is_done settings rack earlier old event label new before goes)
+promises_kept settings rack earlier old (Did label) new before goes =
+    (lines_mean_what_they_say settings rack earlier old label new before goes, λ minor path driver shown is. asks_are_in_order settings rack earlier old (Did label) new minor path driver shown before goes is)
+promises_kept settings rack earlier old (Declines label) new before goes = tt
+
+pub output_promises : (words : List Text) (contents : Option (Text → Option (List ℕ))) (rack : List Driver) → OfOutput (EachStep PromisesKept) words contents rack
+unfolding Holds
+output_promises words contents rack =
+    of_output (EachStep PromisesKept) rack (λ settings script report text shows entries last told earlier old entry new step. promises_kept settings rack earlier old entry new step.before step.goes) words contents
+
+pub output_keeps : (words : List Text) (contents : Option (Text → Option (List ℕ))) (rack : List Driver) → OfOutput (EachStep KeptRunning) words contents rack
+unfolding Holds
+output_keeps words contents rack =
+    of_output (EachStep KeptRunning) rack
+    (λ settings script report text shows entries last told earlier old entry new step.
+    (tasks_are_in_turn settings rack earlier old entry new step.before step.goes, running_keeps settings rack earlier old entry new step.before step.goes)) words contents
+
+pub output_ends_told : (words : List Text) (contents : Option (Text → Option (List ℕ))) (rack : List Driver) → OfOutput (EachState EndTells) words contents rack
+unfolding Holds
+output_ends_told words contents rack =
+    of_output (EachState EndTells) rack (λ settings script report text shows entries last told s state. end_tells_what_is settings rack state.earlier s state.before) words contents
 
 -- what the events of a run plug is within the limits of the script
 entries_within : (entries : List FrontEntry) → AllByRecursion (IsEventWithin 16) (happened entries) → AllByRecursion (IsEntryWithin 16) (machine_part entries)

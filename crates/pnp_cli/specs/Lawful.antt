@@ -5,6 +5,8 @@ use Rattle.pnp_labels.specs.declared.event.Event.{Event}
 use Rattle.pnp_labels.specs.declared.states.Problem.{Problem}
 use Rattle.pnp_labels.specs.declared.label.Label.{Label}
 use Rattle.pnp_labels.specs.declared.label.OpEnd.{OpEnd}
+use Rattle.pnp_labels.specs.declared.label.Shown.{Shown}
+use Rattle.pnp_labels.specs.declared.words.Minor.{Minor}
 use Rattle.pnp_labels.specs.declared.label.OpKind.{OpKind}
 use Rattle.pnp_model.specs.Records as machines
 use Rattle.pnp_model.specs.Records.{Beginning, Driver, State}
@@ -24,6 +26,11 @@ use Rattle.pnp_laws.specs.Strays.{NobodyForgotten}
 use Rattle.pnp_laws.specs.Told.{StatesTold}
 use Rattle.pnp_laws.specs.Waiting.{DependentsTold, NeitherRuns, OpenHandles, ReadyDue}
 use Rattle.pnp_laws.specs.Windows.{InsideWindows}
+use Rattle.pnp_promises.specs.Accepted.{IsDone}
+use Rattle.pnp_promises.specs.Asks.{AsksNext}
+use Rattle.pnp_promises.specs.Keeps.{InTurn, KeepsHoldings}
+use Rattle.pnp_promises.specs.Lines.{Means}
+use Rattle.pnp_promises.specs.Refusals.{ChangesNothing, IsExact}
 use Rattle.notify_front.specs.Fronts.{Front, FrontEntry, IsFrontQuiet, front_printed, on_set, opening_front}
 use Rattle.notify_front.specs.Fronts.FrontEntry.{Passes, Tells, Watches}
 use Rattle.notify_front.specs.Laws as notices
@@ -238,6 +245,20 @@ HeldInsideWindows s = InsideWindows s
 -- a device that waits to be finished waits as well, and one that is ready has a task that finishes it
 abbrev pub HandlesAreKept : State → Type 0
 HandlesAreKept s = OpenHandles s × (NeitherRuns s.operation → DependentsTold s.core × ReadyDue s)
+
+-- who is asked is asked in order, in a state that has a row, and answers by its book
+abbrev pub AsksInOrder : State → Label → State → Type 0
+AsksInOrder old label new = (minor : Minor) (path driver : Text) (shown : Shown) → label ≡ Label.Asked minor path driver shown → AsksNext old minor path driver shown new
+
+-- a refused event changes nothing, and its cause is the first that holds; an accepted one is done, and nothing else; and what a line says is so
+abbrev pub PromisesKept : machines.Settings → List Driver → List Entry → State → Entry → State → Type 0
+PromisesKept settings rack earlier old (Happens event label) new = ChangesNothing old label new × IsExact old event label × IsDone old event label new
+PromisesKept settings rack earlier old (Did label) new = Means settings old label new × AsksInOrder old label new
+PromisesKept settings rack earlier old (Declines label) new = Unit {0}
+
+-- tasks are taken in turn, and a running device keeps what it holds
+abbrev pub KeptRunning : machines.Settings → List Driver → List Entry → State → Entry → State → Type 0
+KeptRunning settings rack earlier old entry new = InTurn old new × KeepsHoldings old new
 
 -- no alternative of a device has more than 16 groups; and where none has more than some number, at most one more than that
 -- number is held or reserved for each event, and for the root

@@ -9,8 +9,9 @@ ghost use Rattle.pnp_cli.specs.Turns.{Awaits};
 ghost use Rattle.pnp_machine.specs.Managers.{settings};
 ghost use Rattle.notify_front.specs.Desks.{IsAtStart, front_of, told_of};
 ghost use Rattle.notify_front.specs.Fronts.{opening_front};
-ghost use Rattle.pnp_cli.specs.Lawful.{OfOutput, SomeRun, OfRun, EachState, EachStep, ByDiagram, NothingClashes, AllHoldWhole, OperationsBegan, EndsRestore, DependentsGoFirst, ConflictsAreReal, FewJoin, AllStatesTold, NodesAreKeyed, NothingOnItself, MapIsClear, AllStacksFit, NamesAreKnown, NobodyIsForgotten, EachPassed, EachHoldsPart, HeldInsideWindows, HandlesAreKept, FewAreHeld, NamesAreShown, TreeIsWhole, OfFrontRun, EachFrontStep, MachineRuns, ClientsWereAsked, ClientsHear, ClientsDecline, NoticesKeepAll, MachineAlone};
+ghost use Rattle.pnp_cli.specs.Lawful.{OfOutput, SomeRun, OfRun, EachState, EachStep, ByDiagram, NothingClashes, AllHoldWhole, OperationsBegan, EndsRestore, DependentsGoFirst, ConflictsAreReal, FewJoin, AllStatesTold, NodesAreKeyed, NothingOnItself, MapIsClear, AllStacksFit, NamesAreKnown, NobodyIsForgotten, EachPassed, EachHoldsPart, HeldInsideWindows, HandlesAreKept, FewAreHeld, NamesAreShown, TreeIsWhole, PromisesKept, KeptRunning, OfFrontRun, EachFrontStep, MachineRuns, ClientsWereAsked, ClientsHear, ClientsDecline, NoticesKeepAll, MachineAlone};
 ghost use Rattle.pnp_cli.specs.OwnTraces.{ChecksYes};
+ghost use Rattle.pnp_promises.specs.Endings.{EndTells};
 ghost use Rattle.pnp_cli.specs.Limits.{IsWithin};
 ghost use Rattle.driver_rack.specs.Rows.{unnamed};
 
@@ -313,6 +314,9 @@ pub fn run<F: Files, K: Sink>(
     ensures few { OfOutput (EachPassed FewAreHeld) (texts words.now) (F.contents files.old) (map (λ b. unnamed (kind_of b) (book b)) rack.items) }
     ensures shown { OfOutput (EachStep NamesAreShown) (texts words.now) (F.contents files.old) (map (λ b. unnamed (kind_of b) (book b)) rack.items) }
     ensures tree { OfOutput (EachState TreeIsWhole) (texts words.now) (F.contents files.old) (map (λ b. unnamed (kind_of b) (book b)) rack.items) }
+    ensures promises { OfOutput (EachStep PromisesKept) (texts words.now) (F.contents files.old) (map (λ b. unnamed (kind_of b) (book b)) rack.items) }
+    ensures keeps { OfOutput (EachStep KeptRunning) (texts words.now) (F.contents files.old) (map (λ b. unnamed (kind_of b) (book b)) rack.items) }
+    ensures ending { OfOutput (EachState EndTells) (texts words.now) (F.contents files.old) (map (λ b. unnamed (kind_of b) (book b)) rack.items) }
     ensures machine { OfOutput (OfFrontRun MachineRuns) (texts words.now) (F.contents files.old) (map (λ b. unnamed (kind_of b) (book b)) rack.items) }
     ensures asks { OfOutput (EachFrontStep ClientsWereAsked) (texts words.now) (F.contents files.old) (map (λ b. unnamed (kind_of b) (book b)) rack.items) }
     ensures hears { OfOutput (OfFrontRun ClientsHear) (texts words.now) (F.contents files.old) (map (λ b. unnamed (kind_of b) (book b)) rack.items) }

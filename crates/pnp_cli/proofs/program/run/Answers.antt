@@ -1,5 +1,5 @@
 use Rattle.pnp_cli.specs.Words.{texts, settings_of}
-use Rattle.pnp_cli.proofs.Lawfulness.{output_tells, output_by_diagram, output_shares, output_holds_whole, output_restores, output_dependents, output_conflicts, output_begins, output_joins, output_told, output_keyed, output_acyclic, output_map_clear, output_stacks, output_names, output_remembers, output_holds_parts, output_inside_windows, output_handles, output_holds_few, output_shown, output_tree, output_of_machine, output_asks, output_hears, output_declines, output_notices, output_alone}
+use Rattle.pnp_cli.proofs.Lawfulness.{output_tells, output_by_diagram, output_shares, output_holds_whole, output_restores, output_dependents, output_conflicts, output_begins, output_joins, output_told, output_keyed, output_acyclic, output_map_clear, output_stacks, output_names, output_remembers, output_holds_parts, output_inside_windows, output_handles, output_holds_few, output_shown, output_tree, output_promises, output_keeps, output_ends_told, output_of_machine, output_asks, output_hears, output_declines, output_notices, output_alone}
 use Rattle.pnp_cli.proofs.OwnTraces.{output_checks}
 use Rattle.pnp_cli.proofs.Answered.{all_answered}
 use Rattle.pnp_cli.proofs.OneOutput.{one_front}
@@ -79,6 +79,15 @@ returns-clause-shown g c = output_shown _ _ c.args.rack.items (texts c.args.word
 
 pub returns-clause-tree : goal.returns-clause-tree
 returns-clause-tree g c = output_tree (texts c.args.words.now) (g.F.Files.contents c.args.files.now) _
+
+pub returns-clause-promises : goal.returns-clause-promises
+returns-clause-promises g c = output_promises (texts c.args.words.now) (g.F.Files.contents c.args.files.now) _
+
+pub returns-clause-keeps : goal.returns-clause-keeps
+returns-clause-keeps g c = output_keeps (texts c.args.words.now) (g.F.Files.contents c.args.files.now) _
+
+pub returns-clause-ending : goal.returns-clause-ending
+returns-clause-ending g c = output_ends_told (texts c.args.words.now) (g.F.Files.contents c.args.files.now) _
 
 pub returns-clause-machine : goal.returns-clause-machine
 returns-clause-machine g c = output_of_machine (texts c.args.words.now) (g.F.Files.contents c.args.files.now) _
