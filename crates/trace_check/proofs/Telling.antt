@@ -13,7 +13,8 @@ use Rattle.pnp_model.specs.Walks.{shown_of, shown_fail, may_fail}
 use Rattle.free_model.specs.Checks.{has_feed}
 use Rattle.free_model.specs.Frees.{StepsBy, FreeSteps}
 use Rattle.free_model.proofs.Lines.{or_false}
-use Rattle.free_model.proofs.Ways.{KinLabel, one, asks, adds, said}
+use Rattle.free_model.specs.Asking.{said}
+use Rattle.free_model.proofs.Ways.{KinLabel, one, asks, adds}
 use Rattle.free_model.proofs.OneVerdict.{kin_steps}
 use Rattle.trace_check.specs.Letters.{answer_by, answer_from, answer_of}
 use Rattle.trace_check.specs.Turns.{NoneStands}
