@@ -7,10 +7,12 @@ pub mod Listing
 pub mod Noding
 pub mod Walking
 pub mod Running
+pub mod Marks
 pub mod Marking
 pub mod Spotting
 pub mod Placing
 pub mod Parting
+pub mod Noting
 pub mod Knowing
 pub mod Sweeping
 pub mod Clashing

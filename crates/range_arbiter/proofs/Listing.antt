@@ -8,7 +8,7 @@ use Rattle.range_arbiter.specs.Orders.{In, IsOrdered, AreOfKind}
 use Rattle.range_arbiter.proofs.PairOrder.{before_itself, before_once, not_before_trans, same_pair}
 use Rattle.range_arbiter.proofs.InOrder.{in_append, in_left, in_right, ordered_across, with_same}
 
-not_is : (b : Bool) → not b ≡ true → b ≡ false
+pub not_is : (b : Bool) → not b ≡ true → b ≡ false
 not_is true h = cc
 not_is false h = refl
 
@@ -119,12 +119,12 @@ pub back_pairs : (xs : List Pair) (p : Pair) (j : ℕ) → ((k : ℕ) (d : Pair)
 back_pairs xs p j h q i = let (k, after, within, is) = in_dropped xs j q i in
     subst (λ z. is_before p z ≡ true) (sym is) (is_so (is_before p (get_or xs k q)) (h k q after within))
 
-get_front : (xs ys : List Pair) (n : ℕ) (d : Pair) → n < length xs → slice_get (xs ++ ys) n ≡ Some (get_or xs n d)
+pub get_front : (xs ys : List Pair) (n : ℕ) (d : Pair) → n < length xs → slice_get (xs ++ ys) n ≡ Some (get_or xs n d)
 get_front [] ys n d within = absurd (omega arith)
 get_front (x ∷ xs) ys zero d within = refl
 get_front (x ∷ xs) ys (suc n) d within = get_front xs ys n d (omega arith)
 
-get_back : (xs ys : List Pair) (n m : ℕ) → n ≡ length xs + m → slice_get (xs ++ ys) n ≡ slice_get ys m
+pub get_back : (xs ys : List Pair) (n m : ℕ) → n ≡ length xs + m → slice_get (xs ++ ys) n ≡ slice_get ys m
 get_back [] ys n m e = let same : n ≡ m = omega arith in ap (slice_get ys) same
 get_back (x ∷ xs) ys zero m e = absurd (omega arith)
 get_back (x ∷ xs) ys (suc n) m e = get_back xs ys n m (omega arith)
@@ -149,3 +149,6 @@ front_last xs p z n up long is h q i =
 
 pub back_last : (xs : List Pair) (n : ℕ) → n + 1 ≡ length xs → (q : Pair) → In q (drop (n + 1) xs) → ⊥
 back_last xs n long q i = subst (In q) (drop_all (n + 1) xs (omega arith)) i
+
+pub drop_past : (xs : List Pair) (n : ℕ) (q : Pair) → length xs ≤ n → In q (drop n xs) → ⊥
+drop_past xs n q past i = subst (In q) (drop_all n xs past) i

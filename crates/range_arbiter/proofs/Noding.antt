@@ -1,5 +1,5 @@
 -- Lists of nodes: what a pool tells of a chain that is parted at one of them, and their pairs.
-use Rattle.std.proofs.Common.{◌≡◌, ◌≢◌, ℕ, zero, suc, Bool, true, false, ◌+◌, ◌<◌, ◌≤◌, ◌⊎◌, inl, inr, cond, eqb, List, [], ◌∷◌, ◌++◌, Contains, Option, Some, None, refl, sym, ◌∙◌, ap, subst, arith, append_assoc, take, drop, length, get_or, length-append}
+use Rattle.std.proofs.Common.{◌≡◌, ◌≢◌, ℕ, zero, suc, Bool, true, false, ◌+◌, ◌<◌, ◌≤◌, ◌⊎◌, inl, inr, cond, eqb, List, [], ◌∷◌, ◌++◌, Contains, Option, Some, None, refl, sym, ◌∙◌, ap, subst, arith, append_assoc, take, drop, length, get_or, set, length-append}
 use Rattle.std.proofs.lemmas.Bool.Decides.{eqb_tells}
 use Rattle.node_pool.specs.Chains.{Each, Apart, places, first_of, after_of, tail_of, inserted_behind, without_place}
 use Rattle.range_arbiter.specs.Pairs.{Pair}
@@ -151,3 +151,8 @@ next_tail x y z rest tail more e is = let same : y ∷ rest ≡ tail = cc in sym
 
 pub no_tail : {X : Type 0} (x y z : X) (rest : List X) → x ∷ y ∷ rest ≡ z ∷ [] → ⊥
 no_tail x y z rest e = let same : y ∷ rest ≡ [] = cc in cc
+
+-- one chain alone, that is another one
+pub the_chain : (cs ds : List (List Node)) (ys : List Node) → length cs ≡ 1 → ds ≡ set cs 0 ys → (length ds ≡ 1) × (get_or ds 0 [] ≡ ys)
+the_chain [] ds ys one e = absurd (omega (arith, one))
+the_chain (c ∷ cs) ds ys one e = subst (λ (l : List (List Node)). (length l ≡ 1) × (get_or l 0 [] ≡ ys)) (sym e) (one, refl)

@@ -2,6 +2,7 @@
 use Rattle.std.proofs.Common.{◌≡◌, ◌≢◌, ℕ, zero, suc, ◌+◌, ◌-◌, ◌<◌, ◌≤◌, ◌⊎◌, inl, inr, List, [], ◌∷◌, ◌++◌, Option, Some, None, IfSome, refl, sym, ◌∙◌, ap, ap₂, subst, arith, append_assoc, append-nil, take, drop, length, get_or, set, insert, remove, length-append}
 use Rattle.std.proofs.lemmas.List.{take-append-drop, take_more, take_more_set, drop-set-lt, drop_more, drop_all, take-append-le, length-take-le, take-take, set-append_left, length-drop}
 use Rattle.std.proofs.lemmas.List.Edits.{get_or-remove_below}
+use Rattle.std.proofs.Math.Seq.{take-append_seam}
 use Rattle.node_pool.specs.Chains.{Each, Apart, places, tail_of, without_place}
 use Rattle.node_pool.specs.declared.pool.Place.{Place}
 use Rattle.range_arbiter.specs.Pairs.{Pair}
@@ -194,3 +195,31 @@ middle_at nodes f run b half first middle low v rest more h whole apart begins l
     drop_within zero xs ys l = refl
     drop_within (suc n) [] ys l = absurd (omega arith)
     drop_within (suc n) (x ∷ xs) ys l = drop_within n xs ys (omega arith)
+
+pub part_marked : (nodes : List Node) (ms : List Mark) (marked : IsMarked nodes ms) (at : ℕ) (m a b : Mark) (half middle : ℕ) (v : Pair) (more : List Node) → Apart (places nodes) → at < length ms → m ≡ get_or ms at m
+    → 0 < half → half < m.count → tail_of middle nodes ≡ drop half (tail_of m.first.node nodes) → tail_of middle nodes ≡ (middle, v) ∷ more
+    → ((f : List Node) (x y : Node) (rest : List Node) → nodes ≡ f ++ x ∷ y ∷ rest → y.0 ≡ middle → a.last.node ≡ x.0)
+    → a.count ≡ half → a.first ≡ m.first → a.low ≡ m.low → a.newest ≡ None → IfSome a.known (λ k. Knows (pairs_of (run_at nodes m.first.node half)) k)
+    → b.count + half ≡ m.count → b.first.node ≡ middle → b.low ≡ v → b.last ≡ m.last → b.newest ≡ None → IfSome b.known (λ k. Knows (pairs_of (run_at nodes middle b.count)) k)
+    → IsMarked nodes (insert (set ms at a) (at + 1) b)
+part_marked nodes ms marked at m a b half middle v more apart within is some less there here back a_count a_first a_low a_newest a_known b_count b_first b_low b_last b_newest b_known =
+    let rs = marked.runs in
+    let long = are_long rs ms marked.are in
+    let r = get_or rs at [] in
+    let f = joined (take at rs) in
+    let bk = joined (drop (at + 1) rs) in
+    let run = run_is rs ms at m marked.are within is in
+    let count = run.count in
+    let (rest, first) = run.first in
+    let h = halves_of r half some (omega arith) in
+    let whole : nodes ≡ f ++ (r ++ bk) = marked.whole ∙ joined_at rs at (omega arith) in
+    let (begins, one, split, other) = middle_at nodes f r bk half m.first.node middle m.low v rest more h whole apart first (omega arith) there here in
+    let last : a.last.node ≡ h.last.0 = back (f ++ h.front) h.last h.first (h.back ++ bk) split (ap (λ (x : Node). x.0) begins) in
+    let cut : length (drop half r) + half ≡ length r =
+    (let parts = ap length (run_halves r half) in let both = length-append (take half r) (drop half r) in let front = length-take-le half r (omega arith) in omega arith) in
+    let rest_is : run_at nodes middle b.count ≡ drop half r =
+    (let same : b.count ≡ length (drop half r) = omega arith in ap₂ (λ n l. take n l) same other ∙ take-append_seam (drop half r) bk) in
+    marked_parted nodes rs ms at (take half r) (drop half r) a b marked.are (omega arith) marked.whole (run_halves r half)
+    (front_half r m a half h run some (omega arith) a_count a_first a_low last (subst (λ l. IfSome a.known (λ k. Knows (pairs_of l) k)) one a_known) a_newest)
+    (back_half r m b half h run (omega arith) b_count b_last
+    (begins ∙ ap₂ (λ (n : ℕ) (p : Pair). (n, p)) (sym b_first) (sym b_low)) (subst (λ l. IfSome b.known (λ k. Knows (pairs_of l) k)) rest_is b_known) b_newest)

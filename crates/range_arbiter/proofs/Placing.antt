@@ -159,3 +159,78 @@ pub held_behind : (nodes f front back b : List Node) (p : Pair) → nodes ≡ f 
 held_behind nodes f front back b p old empty none after there =
     let is : nodes ≡ back ++ b = old ∙ ap₂ (λ k l. k ++ ((l ++ back) ++ b)) (none empty) empty in
     both_ways (is_before p p) (before_itself p) (after p (subst (λ l. In p (pairs_of l)) is there))
+
+-- the mark of the run that is parted, and where the nodes stand
+pub found_stands : (nodes : List Node) (ms : List Mark) (p : Pair) (s : Spot) (found : IsFound nodes ms p s) (place : Place) → s.behind ≡ Some place → Contains (places nodes) place.node
+found_stands nodes ms p s found place is =
+    let parted = found.parted in
+    stands_behind nodes (joined (take s.at found.runs)) parted.front parted.back (joined (drop (s.at + 1) found.runs)) p place (found.whole ∙ parted_whole found.runs p s parted)
+    (subst (EndsAt parted.front p) is parted.ends)
+
+pub found_put : (nodes new : List Node) (ms : List Mark) (p : Pair) (s : Spot) (place : ℕ) (found : IsFound nodes ms p s) → Apart (places nodes) → new ≡ inserted (place_number s.behind) (place, p) nodes
+    → IsPut new ms (place, p) s
+found_put nodes new ms p s place found apart is =
+    let parted = found.parted in
+    record {
+      runs = found.runs;
+      are = found.are;
+      parted = parted;
+      whole = is ∙ put_whole nodes (joined (take s.at found.runs)) parted.front parted.back (joined (drop (s.at + 1) found.runs)) p s.behind (place, p)
+          (found.whole ∙ parted_whole found.runs p s parted) apart parted.ends parted.none;
+    }
+
+pub found_pairs : (nodes new : List Node) (ms : List Mark) (p : Pair) (s : Spot) (place : ℕ) (found : IsFound nodes ms p s) → Apart (places nodes) → new ≡ inserted (place_number s.behind) (place, p) nodes
+    → IsOrdered (pairs_of nodes) → AreOfKind p.1.kind (pairs_of nodes) → pairs_of new ≡ pairs_with (pairs_of nodes) p
+found_pairs nodes new ms p s place found apart is up kinds =
+    let parted = found.parted in
+    let f = joined (take s.at found.runs) in
+    let b = joined (drop (s.at + 1) found.runs) in
+    let old = found.whole ∙ parted_whole found.runs p s parted in
+    put_pairs nodes new f parted.front parted.back b p s.behind place old
+    (is ∙ put_whole nodes f parted.front parted.back b p s.behind (place, p) old apart parted.ends parted.none) up kinds parted.ends parted.none found.after
+
+-- a pair that is held is found
+pub found_held : (nodes : List Node) (ms : List Mark) (p : Pair) (s : Spot) (found : IsFound nodes ms p s) (place : Place) → s.behind ≡ Some place → IsHeld nodes ms s.at place.node
+found_held nodes ms p s found place is =
+    let parted = found.parted in
+    let (rest, v, ends, h) = subst (EndsAt parted.front p) is parted.ends in
+    record {
+      runs = found.runs;
+      whole = found.whole;
+      are = found.are;
+      within = parted.within;
+      front = rest;
+      pair = v;
+      back = parted.back;
+      parts = parted.parts ∙ ap (λ l. l ++ parted.back) ends ∙ append_assoc rest ((place.node, v) ∷ []) parted.back;
+    }
+
+pub found_taken : (nodes new : List Node) (ms : List Mark) (p : Pair) (s : Spot) (found : IsFound nodes ms p s) (place : Place) → s.behind ≡ Some place → IsOrdered (pairs_of nodes) → AreOfKind p.1.kind (pairs_of nodes)
+    → In p (pairs_of nodes) → new ≡ without_place place.node nodes → Apart (places nodes) → pairs_of nodes ≡ pairs_with (pairs_of new) p
+found_taken nodes new ms p s found place is up kinds there gone apart =
+    let parted = found.parted in
+    held_there nodes (joined (take s.at found.runs)) parted.front parted.back (joined (drop (s.at + 1) found.runs)) p place (found.whole ∙ parted_whole found.runs p s parted) up kinds
+    (subst (EndsAt parted.front p) is parted.ends) found.after there new gone apart
+
+pub found_none : (nodes : List Node) (ms : List Mark) (p : Pair) (s : Spot) (found : IsFound nodes ms p s) → s.behind ≡ None → In p (pairs_of nodes) → ⊥
+found_none nodes ms p s found is there =
+    let parted = found.parted in
+    held_behind nodes (joined (take s.at found.runs)) parted.front parted.back (joined (drop (s.at + 1) found.runs)) p (found.whole ∙ parted_whole found.runs p s parted)
+    (subst (EndsAt parted.front p) is parted.ends) parted.none found.after there
+
+-- some mark stands where a pair does
+pub marks_there : (nodes : List Node) (ms : List Mark) (p : Pair) → IsMarked nodes ms → In p (pairs_of nodes) → 0 < length ms
+marks_there nodes ms p marked there = go marked.runs ms marked.are (subst (λ l. In p (pairs_of l)) marked.whole there)
+  where
+    go : (rs : List (List Node)) (ms : List Mark) → AreRuns rs ms → In p (pairs_of (joined rs)) → 0 < length ms
+    go [] [] are i = absurd i
+    go [] (m ∷ ms) are i = absurd are
+    go (r ∷ rs) [] are i = absurd are
+    go (r ∷ rs) (m ∷ ms) are i = omega arith
+
+pub none_there : (nodes : List Node) (ms : List Mark) → IsMarked nodes ms → ms ≡ [] → nodes ≡ []
+none_there nodes ms marked none = marked.whole ∙ go marked.runs (subst (AreRuns marked.runs) none marked.are)
+  where
+    go : (rs : List (List Node)) → AreRuns rs [] → joined rs ≡ []
+    go [] are = refl
+    go (r ∷ rs) are = absurd are

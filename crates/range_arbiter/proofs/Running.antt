@@ -45,6 +45,15 @@ joined_drop (r ∷ rs) (suc i) within =
 pub joined_pairs_next : (rs : List (List Node)) (i : ℕ) → i < length rs → pairs_of (joined (take (i + 1) rs)) ≡ pairs_of (joined (take i rs)) ++ pairs_of (get_or rs i [])
 joined_pairs_next rs i within = ap pairs_of (joined_next rs i within) ∙ pairs_append (joined (take i rs)) (get_or rs i [])
 
+pub joined_pairs_at : (rs : List (List Node)) (i : ℕ) → i < length rs
+    → pairs_of (joined rs) ≡ pairs_of (joined (take i rs)) ++ (pairs_of (get_or rs i []) ++ pairs_of (joined (drop (i + 1) rs)))
+joined_pairs_at rs i within =
+    ap pairs_of (joined_at rs i within) ∙ pairs_append (joined (take i rs)) (get_or rs i [] ++ joined (drop (i + 1) rs))
+    ∙ ap (λ l. pairs_of (joined (take i rs)) ++ l) (pairs_append (get_or rs i []) (joined (drop (i + 1) rs)))
+
+pub joined_pairs_drop : (rs : List (List Node)) (i : ℕ) → i < length rs → pairs_of (joined (drop i rs)) ≡ pairs_of (get_or rs i []) ++ pairs_of (joined (drop (i + 1) rs))
+joined_pairs_drop rs i within = ap pairs_of (joined_drop rs i within) ∙ pairs_append (get_or rs i []) (joined (drop (i + 1) rs))
+
 -- marks for runs
 pub are_long : (rs : List (List Node)) (ms : List Mark) → AreRuns rs ms → length rs ≡ length ms
 are_long [] [] are = refl

@@ -31,7 +31,8 @@ reached_pair nodes front run back p v turn place rest whole apart r here =
     let tail : tail_of place nodes ≡ (place, r.pair) ∷ (r.back ++ back) =
     ap (tail_of place) is ∙ tail_at (front ++ r.front) (place, r.pair) (r.back ++ back) (subst (λ l. Apart (places l)) is apart) in
     let same : (place, v) ∷ rest ≡ (place, r.pair) ∷ (r.back ++ back) = sym here ∙ tail in
-    cc
+    let head : (place, v) ≡ (place, r.pair) = cc in
+    ap (λ (x : Node). x.1) head
 
 pub spot_here : (run : List Node) (p v : Pair) (turn : ℕ) (at : Place) (r : IsReached run p turn at.node) → v ≡ r.pair → is_before p v ≡ false → (front : List Node) × (back : List Node)
     × (run ≡ front ++ back) × ((rest : List Node) × (q : Pair) × (front ≡ rest ++ (at.node, q) ∷ []) × (is_before p q ≡ false)) × ((q : Pair) → In q (pairs_of back) → is_before p q ≡ true)

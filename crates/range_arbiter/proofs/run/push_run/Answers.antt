@@ -20,7 +20,7 @@ places-preserved c =
     let count : length xs ≡ c.args.count = length-run nodes c.args.count c.requires.long in
     let within : c.places._turn < length xs = (let more = c.places-test.true in omega arith) in
     let is : p ≡ get_or xs c.places._turn p = pair_here nodes tail c.places._turn c.args.count (c.places.at.node, p) c.get.ensures.here.0 here c.get.ensures.here.1 c.places-test.true in
-    let pushed : c.in_ok-push.new.self.items ≡ c.places.list.now.items ++ p ∷ [] = search rules in
+    let pushed : c.push.new.self.items ≡ c.places.list.items ++ p ∷ [] = search rules in
     record {
       stands = c.step-at.ensures.stands;
       here = λ more. goes_on nodes tail (tail_of c.step-at.result.node (nodes_of c.args.pool.now)) c.places._turn c.args.count c.requires.long here c.step-at.ensures.on more;
