@@ -7,7 +7,7 @@ pub mod Listing
 pub mod Noding
 pub mod Walking
 pub mod Running
-pub mod Marks
+pub mod Lows
 pub mod Marking
 pub mod Spotting
 pub mod Placing

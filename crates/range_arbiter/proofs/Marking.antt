@@ -17,21 +17,21 @@ use Rattle.range_arbiter.proofs.Knowing.{knows_same}
 -- the end of a list whose end is some nodes
 pub end_of : (xs : List Node) (y : Node) (ys rest : List Node) (z : Node) → xs ++ y ∷ ys ≡ rest ++ z ∷ [] → (more : List Node) × (y ∷ ys ≡ more ++ z ∷ [])
 end_of [] y ys rest z e = (rest, e)
-end_of (x ∷ xs) y ys [] z e = absurd (let some : xs ++ y ∷ ys ≡ [] = cc in not_none xs some)
+end_of (x ∷ xs) y ys [] z e = absurd (let whole : x ∷ (xs ++ y ∷ ys) ≡ z ∷ [] = e in let some : xs ++ y ∷ ys ≡ [] = cc in not_none xs some)
   where
     not_none : (xs : List Node) → xs ++ y ∷ ys ≡ [] → ⊥
     not_none [] e = cc
     not_none (x ∷ xs) e = cc
-end_of (x ∷ xs) y ys (w ∷ rest) z e = let more : xs ++ y ∷ ys ≡ rest ++ z ∷ [] = cc in end_of xs y ys rest z more
+end_of (x ∷ xs) y ys (w ∷ rest) z e = let whole : x ∷ (xs ++ y ∷ ys) ≡ w ∷ (rest ++ z ∷ []) = e in let more : xs ++ y ∷ ys ≡ rest ++ z ∷ [] = cc in end_of xs y ys rest z more
 
 -- two ends of one list
 pub same_end : (xs ys : List Node) (x y : Node) → xs ++ x ∷ [] ≡ ys ++ y ∷ [] → x ≡ y
 same_end xs ys x y e = let (more, is) = end_of xs x [] ys y e in alone more is
   where
     alone : (more : List Node) → x ∷ [] ≡ more ++ y ∷ [] → x ≡ y
-    alone [] is = cc
-    alone (z ∷ []) is = cc
-    alone (z ∷ w ∷ more) is = cc
+    alone [] is = let whole : x ∷ [] ≡ y ∷ [] = is in cc
+    alone (z ∷ []) is = let whole : x ∷ [] ≡ z ∷ y ∷ [] = is in let none : [] ≡ y ∷ [] = cc in cc
+    alone (z ∷ w ∷ more) is = let whole : x ∷ [] ≡ z ∷ w ∷ (more ++ y ∷ []) = is in let none : [] ≡ w ∷ (more ++ y ∷ []) = cc in cc
 
 pub last_behind : (xs : List Node) (y : Node) (ys : List Node) (last : ℕ) → IsLast (xs ++ y ∷ ys) last → IsLast (y ∷ ys) last
 last_behind xs y ys last (rest, p, e) = let (more, is) = end_of xs y ys rest (last, p) e in (more, p, is)
@@ -101,7 +101,7 @@ first_put ys xs place p none = (ys, ap (λ l. l ++ (place, p) ∷ ys) none)
 
 pub first_kept : (xs ys rest before : List Node) (x v f : Node) → xs ≡ before ++ v ∷ [] → xs ++ ys ≡ f ∷ rest → (more : List Node) × (xs ++ x ∷ ys ≡ f ∷ more)
 first_kept [] ys rest before x v f some first = absurd (not_behind before v (sym some))
-first_kept (z ∷ zs) ys rest before x v f some first = let same : z ≡ f = cc in (zs ++ x ∷ ys, ap (λ w. w ∷ zs ++ x ∷ ys) same)
+first_kept (z ∷ zs) ys rest before x v f some first = let whole : z ∷ (zs ++ ys) ≡ f ∷ rest = first in let same : z ≡ f = cc in (zs ++ x ∷ ys, ap (λ w. w ∷ zs ++ x ∷ ys) same)
 
 -- a mark with a pair more
 pub run_with : (xs ys : List Node) (m more : Mark) (x : Node) → IsRun (xs ++ ys) m → Apart (places (xs ++ x ∷ ys)) → more.count ≡ m.count + 1

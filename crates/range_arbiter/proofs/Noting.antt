@@ -54,10 +54,12 @@ put_within nodes ms x s put more is = marked_set nodes put.runs ms s.at (put.par
 first_other : (xs : List Node) (x : Node) (ys : List Node) (m : Mark) → IsRun (xs ++ x ∷ ys) m → x.0 ≢ m.first.node → (rest : List Node) × (xs ≡ (m.first.node, m.low) ∷ rest)
 first_other [] x ys m is other =
     let (rest, first) = is.first in
+    let whole : x ∷ ys ≡ (m.first.node, m.low) ∷ rest = first in
     let head : x ≡ (m.first.node, m.low) = cc in
     absurd (other (ap (λ (z : Node). z.0) head))
 first_other (y ∷ xs) x ys m is other =
     let (rest, first) = is.first in
+    let whole : y ∷ (xs ++ x ∷ ys) ≡ (m.first.node, m.low) ∷ rest = first in
     let head : y ≡ (m.first.node, m.low) = cc in
     (xs, ap (λ z. z ∷ xs) head)
 
@@ -77,6 +79,7 @@ none_first : (xs : List Node) (x : Node) (ys : List Node) (m : Mark) → IsRun (
 none_first [] x ys m is a same = refl
 none_first (y ∷ xs) x ys m is a same =
     let (rest, first) = is.first in
+    let whole : y ∷ (xs ++ x ∷ ys) ≡ (m.first.node, m.low) ∷ rest = first in
     let head : y ≡ (m.first.node, m.low) = cc in
     absurd (each_at (λ z. y.0 ≢ z) xs x ys a.0 (ap (λ (z : Node). z.0) head ∙ sym same))
 
@@ -197,3 +200,20 @@ put_alone nodes ms x s put k m (inr (here, none)) is =
     let run : get_or put.runs s.at [] ≡ parted.back = parted.parts ∙ ap (λ l. l ++ parted.back) none in
     marked_front nodes put.runs ms s.at k (x ∷ []) m put.are parted.within here
     (put.whole ∙ ap (λ l. f ++ ((l ++ x ∷ parted.back) ++ b)) none ∙ ap (λ l. f ++ ((x ∷ l) ++ b)) (sym run)) is
+
+pub put_count : (xs ys : List Node) (x : Node) (m more : Mark) → IsRun (xs ++ ys) m → IsRun (xs ++ x ∷ ys) more → more.count ≡ m.count + 1
+put_count xs ys x m more is longer =
+    let one = length-append xs (x ∷ ys) in
+    let other = length-append xs ys in
+    let count = is.count in
+    let next = longer.count in
+    omega arith
+
+pub length-put : (xs : List Node) (x : Node) (ys : List Node) → 0 < length (xs ++ x ∷ ys)
+length-put [] x ys = omega arith
+length-put (y ∷ xs) x ys = omega arith
+
+pub not_one : (n : ℕ) → 0 < n → (n ≡ 1 → ⊥) → 1 < n
+not_one zero some not = absurd (omega arith)
+not_one (suc zero) some not = absurd (not refl)
+not_one (suc (suc n)) some not = omega arith

@@ -1,12 +1,12 @@
 -- The place of a pair among the runs, and the chain once it stands there, or does no more.
-use Rattle.std.proofs.Common.{◌≡◌, ℕ, zero, suc, true, false, ◌+◌, ◌<◌, ◌≤◌, ◌⊎◌, inl, inr, List, [], ◌∷◌, ◌++◌, Contains, Option, Some, None, refl, sym, ◌∙◌, ap, ap₂, subst, arith, append_assoc, append-nil, take, drop, length, get_or}
+use Rattle.std.proofs.Common.{◌≡◌, ℕ, zero, suc, true, false, ◌+◌, ◌<◌, ◌≤◌, ◌⊎◌, inl, inr, List, [], ◌∷◌, ◌++◌, Contains, Option, Some, None, IfSome, refl, sym, ◌∙◌, ap, ap₂, subst, arith, append_assoc, append-nil, take, drop, length, get_or}
 use Rattle.std.proofs.lemmas.Bool.{cases_Bool, both_ways}
-use Rattle.node_pool.specs.Chains.{Apart, places, inserted, without_place}
+use Rattle.node_pool.specs.Chains.{Chains, Stands, Apart, places, inserted, without_place}
 use Rattle.node_pool.specs.Places.{place_number}
 use Rattle.node_pool.specs.declared.pool.Place.{Place}
 use Rattle.range_arbiter.specs.Pairs.{Pair, is_before, pairs_with}
 use Rattle.range_arbiter.specs.Orders.{In, IsOrdered, AreOfKind}
-use Rattle.range_arbiter.specs.Nodes.{Node, pairs_of}
+use Rattle.range_arbiter.specs.Nodes.{Node, nodes_of, pairs_of}
 use Rattle.range_arbiter.specs.Runs.{joined, IsRun, AreRuns, EndsAt, IsSpot, IsParted, IsMarked, IsFound, IsPut, IsHeld, lows}
 use Rattle.range_arbiter.specs.declared.mark.Mark.{Mark}
 use Rattle.range_arbiter.specs.declared.put.Spot.{Spot}
@@ -234,3 +234,10 @@ none_there nodes ms marked none = marked.whole ∙ go marked.runs (subst (AreRun
     go : (rs : List (List Node)) → AreRuns rs [] → joined rs ≡ []
     go [] are = refl
     go (r ∷ rs) are = absurd are
+
+pub found_behind : (nodes : List Node) (pool : Chains Pair) (ms : List Mark) (p : Pair) (s : Spot) → IsFound nodes ms p s → 0 < length pool.chains → nodes ≡ nodes_of pool → IfSome s.behind (λ place. Stands pool 0 place.node)
+found_behind nodes pool ms p s found some is = go s.behind refl
+  where
+    go : (o : Option Place) → s.behind ≡ o → IfSome o (λ place. Stands pool 0 place.node)
+    go None e = tt
+    go (Some place) e = (some, subst (λ l. Contains (places l) place.node) is (found_stands nodes ms p s found place e))

@@ -156,3 +156,11 @@ at_mark nodes ms marked i m apart within is =
     let same = are_long marked.runs ms marked.are in
     at_run nodes (joined (take i marked.runs)) (get_or marked.runs i []) (joined (drop (i + 1) marked.runs)) m (marked.whole ∙ joined_at marked.runs i (omega arith)) apart
     (run_is marked.runs ms i m marked.are within is)
+
+pub counts_set : (ms : List Mark) (i : ℕ) (m : Mark) → i < length ms → get_or (counts (set ms i m)) i 0 ≡ m.count
+counts_set [] i m within = absurd (omega arith)
+counts_set (n ∷ ms) zero m within = refl
+counts_set (n ∷ ms) (suc i) m within = counts_set ms i m (omega arith)
+
+pub same_count : (ms : List Mark) (i : ℕ) (m n : Mark) → i < length ms → m ≡ get_or ms i m → n ≡ get_or ms i n → m.count ≡ n.count
+same_count ms i m n within one other = sym (count_is ms i m within one) ∙ count_is ms i n within other

@@ -38,3 +38,8 @@ pair_at (y ∷ nodes) (suc turn) (suc count) x rest is within = pair_at nodes tu
 pub pair_here : (nodes tail : List Node) (turn count : ℕ) (x : Node) (rest : List Node) → tail ≡ drop turn nodes → tail ≡ x ∷ rest → turn < count
     → x.1 ≡ get_or (pairs_of (take count nodes)) turn x.1
 pair_here nodes tail turn count x rest is here within = pair_at nodes turn count x rest (sym is ∙ here) within
+
+pub length-dropped : {X : Type 0} (n : ℕ) (xs : List X) → n ≤ length xs → length (drop n xs) + n ≡ length xs
+length-dropped zero xs within = omega arith
+length-dropped (suc n) [] within = absurd (omega arith)
+length-dropped (suc n) (x ∷ xs) within = let more = length-dropped n xs (omega arith) in omega arith

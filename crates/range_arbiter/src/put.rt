@@ -1,4 +1,4 @@
-ghost use Rattle.std.specs.Prelude.{◌≡◌, ◌<◌, ◌≤◌, ◌+◌, ◌-◌, ◌^◌, ◌⊎◌, ◌∷◌, [], ◌++◌, List, length, get_or, vec_len, vec_capacity, IfSome};
+ghost use Rattle.std.specs.Prelude.{◌≡◌, ◌<◌, ◌≤◌, ◌+◌, ◌-◌, ◌^◌, ◌⊎◌, ◌∷◌, [], ◌++◌, true, List, length, get_or, vec_len, vec_capacity, IfSome};
 ghost use Rattle.node_pool.specs.Chains.{Stands, Apart, places, tail_of, inserted};
 ghost use Rattle.node_pool.specs.Places.{place_number};
 ghost use Rattle.range_arbiter.specs.Pairs.{Pair, pairs_with};
@@ -36,15 +36,15 @@ pub fn find(pool: &Pool<(Owner, Res)>, marks: &[Mark], pair: &(Owner, Res)) -> S
 }
 
 /// Puts a pair into the chain, behind a place or in front of all.
-fn put_node(pool: &mut Pool<(Owner, Res)>, behind: Option<Place>, pair: (Owner, Res)) -> Place
+fn put_node(pool: &mut Pool<(Owner, Res)>, behind: Option<Place>, pair: &(Owner, Res)) -> Place
     requires one { length pool.old.chains ≡ 1 }
     requires spare { 0 < pool.old.spare }
     requires stands { IfSome behind (λ p. Stands pool.old 0 p.node) }
-    ensures nodes { nodes_of pool.new ≡ inserted (place_number behind) (result.node, pair) (nodes_of pool.old) }
+    ensures nodes { nodes_of pool.new ≡ inserted (place_number behind) (result.node, pair.now) (nodes_of pool.old) }
     ensures one { length pool.new.chains ≡ 1 }
     ensures spare { pool.new.spare ≡ pool.old.spare - 1 }
 {
-    match pool.insert_after(0, behind, pair) {
+    match pool.insert_after(0, behind, *pair) {
         Ok(place) => place,
         Err(_) => unreachable!(),
     }
@@ -71,6 +71,7 @@ fn known_anew(pool: &Pool<(Owner, Res)>, mark: Mark) -> Mark
 fn note_within(pool: &Pool<(Owner, Res)>, marks: &mut Vec<Mark>, spot: Spot, place: Place, pair: (Owner, Res))
     requires one { length pool.now.chains ≡ 1 }
     requires put { IsPut (nodes_of pool.now) marks.old.items (place.node, pair) spot }
+    requires within { spot.at < vec_len marks.old }
     ensures marked { IsMarked (nodes_of pool.now) marks.new.items }
     ensures count { vec_len marks.new ≡ vec_len marks.old }
     ensures more { get_or (counts marks.new.items) spot.at 0 ≡ get_or (counts marks.old.items) spot.at 0 + 1 }
@@ -98,26 +99,37 @@ fn apart_from(mark: &Mark, spot: Spot) -> Option<usize>
     }
 }
 
-/// Parts a run in halves. It takes no memory. Cost: the number of its pairs.
+/// Whether a run has 32 pairs or more, and a mark more has place.
+fn is_full(marks: &Vec<Mark>, at: usize) -> bool
+    requires { at < vec_len marks.now }
+    ensures count { result ≡ true → 32 ≤ get_or (counts marks.now.items) at 0 }
+    ensures place { result ≡ true → vec_len marks.now < vec_capacity marks.now }
+{
+    if marks[at].count < 32 {
+        return false;
+    }
+    marks.len() < marks.capacity()
+}
+
+/// Parts the first 16 pairs of a run from the others. It takes no memory. Cost: the number of its pairs.
 fn part(pool: &Pool<(Owner, Res)>, marks: &mut Vec<Mark>, at: usize)
     requires one { length pool.now.chains ≡ 1 }
     requires marked { IsMarked (nodes_of pool.now) marks.old.items }
     requires within { at < vec_len marks.old }
-    requires several { 1 < get_or (counts marks.old.items) at 0 }
+    requires several { 16 < get_or (counts marks.old.items) at 0 }
     requires place { vec_len marks.old < vec_capacity marks.old }
     ensures marked { IsMarked (nodes_of pool.now) marks.new.items }
     ensures capacity { vec_capacity marks.new ≡ vec_capacity marks.old }
 {
     pool.places_differ(0);
     let mark = marks[at];
-    let half = mark.count / 2;
-    let middle = place_at(pool, mark.first, half);
+    let middle = place_at(pool, mark.first, 16);
     let back = Mark {
         first: middle,
         last: mark.last,
         low: *pool.get(0, middle),
-        count: mark.count - half,
-        known: Some(known_at(pool, middle, mark.count - half)),
+        count: mark.count - 16,
+        known: Some(known_at(pool, middle, mark.count - 16)),
         newest: None,
         before: None,
     };
@@ -125,8 +137,8 @@ fn part(pool: &Pool<(Owner, Res)>, marks: &mut Vec<Mark>, at: usize)
         first: mark.first,
         last: step_back(pool, middle),
         low: mark.low,
-        count: half,
-        known: Some(known_at(pool, mark.first, half)),
+        count: 16,
+        known: Some(known_at(pool, mark.first, 16)),
         newest: None,
         before: None,
     };
@@ -138,12 +150,12 @@ fn part(pool: &Pool<(Owner, Res)>, marks: &mut Vec<Mark>, at: usize)
 fn note(pool: &Pool<(Owner, Res)>, marks: &mut Vec<Mark>, spot: Spot, place: Place, pair: (Owner, Res))
     requires one { length pool.now.chains ≡ 1 }
     requires put { IsPut (nodes_of pool.now) marks.old.items (place.node, pair) spot }
+    requires within { spot.at < vec_len marks.old }
     ensures marked { IsMarked (nodes_of pool.now) marks.new.items }
     ensures capacity { vec_capacity marks.new ≡ vec_capacity marks.old }
 {
     pool.places_differ(0);
-    let is_full = marks[spot.at].count >= 32 && marks.len() < marks.capacity();
-    if !is_full {
+    if !is_full(marks, spot.at) {
         note_within(pool, marks, spot, place, pair);
         return;
     }
@@ -168,7 +180,7 @@ fn put_first(pool: &mut Pool<(Owner, Res)>, marks: &mut Vec<Mark>, pair: (Owner,
     ensures marked { IsMarked (nodes_of pool.new) marks.new.items }
     ensures capacity { vec_capacity marks.new ≡ vec_capacity marks.old }
 {
-    let place = put_node(pool, None, pair);
+    let place = put_node(pool, None, &pair);
     let _ = marks.push(Mark::single(place, pair));
 }
 
@@ -193,6 +205,6 @@ pub fn put_pair(pool: &mut Pool<(Owner, Res)>, marks: &mut Vec<Mark>, pair: (Own
         return;
     }
     let spot = find(pool, marks, &pair);
-    let place = put_node(pool, spot.behind, pair);
+    let place = put_node(pool, spot.behind, &pair);
     note(pool, marks, spot, place, pair);
 }

@@ -78,7 +78,10 @@ fn are_light(marks: &[Mark], at: usize) -> bool
     ensures next { result ≡ true → at + 1 < length marks.now }
     ensures few { result ≡ true → get_or (counts marks.now) at 0 + get_or (counts marks.now) (at + 1) 0 ≤ 24 }
 {
-    at + 1 < marks.len() && u64::from(marks[at].count) + u64::from(marks[at + 1].count) <= 24
+    if at + 1 >= marks.len() {
+        return false;
+    }
+    u64::from(marks[at].count) + u64::from(marks[at + 1].count) <= 24
 }
 
 /// One mark for the runs of a mark and of the next one.
@@ -114,6 +117,7 @@ fn join_light(marks: &mut Vec<Mark>, at: usize)
 fn take_at(pool: &mut Pool<(Owner, Res)>, marks: &mut Vec<Mark>, at: usize, place: Place)
     requires one { length pool.old.chains ≡ 1 }
     requires held { IsHeld (nodes_of pool.old) marks.old.items at place.node }
+    requires within { at < vec_len marks.old }
     ensures nodes { nodes_of pool.new ≡ without_place place.node (nodes_of pool.old) }
     ensures one { length pool.new.chains ≡ 1 }
     ensures spare { pool.new.spare ≡ pool.old.spare + 1 }

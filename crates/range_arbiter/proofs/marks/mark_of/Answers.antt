@@ -7,7 +7,7 @@ use Rattle.range_arbiter.specs.Runs.{lows}
 use Rattle.range_arbiter.specs.declared.mark.Mark.{Mark}
 use Rattle.range_arbiter.proofs.Running.{low_is, length-lows}
 use Rattle.range_arbiter.proofs.Listing.{drop_past}
-use Rattle.range_arbiter.proofs.Marks.{parted_marks, low_before, lows_behind}
+use Rattle.range_arbiter.proofs.Lows.{parted_marks, low_before, lows_behind}
 use Rattle.range_arbiter.proofs.marks.mark_of.Goals as goal
 
 pub returns-clause-front : goal.returns-clause-front
@@ -34,7 +34,8 @@ returns-then-not-comes_before-clause-front c =
     let ms = c.args.marks.now in
     let p = c.args.pair.now in
     let m = c.index-marks-last.result in
-    inr (ap (is_before p) (low_is ms (length ms - 1) m p (let any = c.requires.any in omega arith) c.index-marks-last.is) ∙ (sym c.comes_before.ensures ∙ c.if-not-comes_before.true))
+    let told : c.comes_before.result ≡ is_before p m.low = search rules in
+    inr (ap (is_before p) (low_is ms (length ms - 1) m p (let any = c.requires.any in omega arith) c.index-marks-last.is) ∙ (sym told ∙ c.if-not-comes_before.true))
 
 pub returns-then-not-comes_before-clause-back : goal.returns-then-not-comes_before-clause-back
 returns-then-not-comes_before-clause-back c = λ q i.

@@ -1,6 +1,6 @@
 use Rattle.std.proofs.Common.{◌≡◌, ◌<◌, ◌≤◌, ◌+◌, ◌++◌, List, [], length, take, drop, get_or, refl, sym, ◌∙◌, ap, subst, arith, append-nil, append_assoc}
 use Rattle.std.proofs.lemmas.List.{take_all}
-use Rattle.range_arbiter.specs.Nodes.{nodes_of, pairs_of}
+use Rattle.range_arbiter.specs.Nodes.{nodes_of, pairs_of, pairs_at}
 use Rattle.range_arbiter.specs.Runs.{joined}
 use Rattle.range_arbiter.proofs.Running.{at_mark, run_is, are_long, joined_pairs_next}
 use Rattle.range_arbiter.proofs.marks.push_onto.Goals as goal
@@ -25,7 +25,7 @@ loop-mark-preserved c = λ runs whole are.
     let long = are_long runs c.args.marks.now are in
     let less = c.loop-mark-test.true in
     let was = c.args.list.now.items in
-    c.in_ok-push_run.ensures ∙ ap (λ l. l ++ pairs_of _) (c.loop-mark.invariant runs whole are) ∙ ap (λ l. (was ++ pairs_of (joined (take i runs))) ++ pairs_of l) at.is
+    c.in_ok-push_run.ensures ∙ ap (λ l. l ++ pairs_at (nodes_of c.args.pool.now) m.first.node m.count) (c.loop-mark.invariant runs whole are) ∙ ap (λ l. (was ++ pairs_of (joined (take i runs))) ++ pairs_of l) at.is
     ∙ append_assoc was (pairs_of (joined (take i runs))) (pairs_of (get_or runs i [])) ∙ ap (λ l. was ++ l) (sym (joined_pairs_next runs i (omega arith)))
 
 pub returns : goal.returns

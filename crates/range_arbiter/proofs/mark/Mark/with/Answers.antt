@@ -7,5 +7,5 @@ use Rattle.range_arbiter.proofs.mark.Mark.with.Goals as goal
 pub returns : goal.returns
 returns c = λ xs ys is a ends.
     run_with xs ys c.args.self.now _ (c.args.place.node, c.args.pair) is a refl (c.first_with.ensures xs ys c.args.pair is ends)
-    (c.last_with-last.ensures xs ys c.args.pair is (apart_without xs (c.args.place.node, c.args.pair) ys a) ends)
-    (c.known_and-known.ensures (pairs_of (xs ++ ys)) is.known) refl refl
+    (c.last_with.ensures xs ys c.args.pair is (apart_without xs (c.args.place.node, c.args.pair) ys a) ends)
+    (c.known_and.ensures (pairs_of (xs ++ ys)) is.known) refl refl
