@@ -72,16 +72,26 @@ fn without(pool: &Pool<(Owner, Res)>, mark: &Mark, place: Place) -> Mark
     }
 }
 
-/// Whether the runs of a mark and of the next one have few pairs together.
+/// Whether a run has few pairs.
+fn is_light(mark: &Mark) -> bool
+    ensures { result ≡ true → mark.now.count ≤ 16 }
+{
+    mark.count <= 16
+}
+
+/// Whether the runs of a mark and of the next one have few pairs.
 fn are_light(marks: &[Mark], at: usize) -> bool
     requires { at < length marks.now }
     ensures next { result ≡ true → at + 1 < length marks.now }
-    ensures few { result ≡ true → get_or (counts marks.now) at 0 + get_or (counts marks.now) (at + 1) 0 ≤ 24 }
+    ensures few { result ≡ true → get_or (counts marks.now) at 0 + get_or (counts marks.now) (at + 1) 0 ≤ 32 }
 {
     if at + 1 >= marks.len() {
         return false;
     }
-    u64::from(marks[at].count) + u64::from(marks[at + 1].count) <= 24
+    if !is_light(&marks[at]) {
+        return false;
+    }
+    is_light(&marks[at + 1])
 }
 
 /// One mark for the runs of a mark and of the next one.

@@ -56,3 +56,28 @@ returns-clause-marked c =
     subst (IsMarked (nodes_of c.args.pool.now)) (sym put)
     (part_marked (nodes_of c.args.pool.now) ms c.requires.marked c.args.at m front back 16 c.place_at-middle.result.node c.get.result.now c.get.ensures.here.0 c.places_differ.ensures.apart (omega arith) c.index-mark.ensures
     (omega arith) (omega arith) c.place_at-middle.ensures.at c.get.ensures.here.1 c.step_back.ensures.back refl refl refl refl c.known_at-2.ensures (omega arith) refl refl refl refl c.known_at.ensures)
+
+pub overflow_sub-back : goal.overflow_sub-back
+overflow_sub-back c =
+    let size = c.args.marks.now.ok.0 in
+    let within = c.requires.within in
+    let several = c.requires.several in
+    let same = count_is c.args.marks.now.items c.args.at c.index-mark.result.now (omega arith) c.index-mark.ensures in
+    omega arith
+
+pub overflow_sub-mark : goal.overflow_sub-mark
+overflow_sub-mark c =
+    let size = c.args.marks.now.ok.0 in
+    let within = c.requires.within in
+    let several = c.requires.several in
+    let same = count_is c.args.marks.now.items c.args.at c.index-mark.result.now (omega arith) c.index-mark.ensures in
+    omega arith
+
+pub known_at-requires-2-clause-long : goal.known_at-requires-2-clause-long
+known_at-requires-2-clause-long c =
+    let size = c.args.marks.now.ok.0 in
+    let within = c.requires.within in
+    let several = c.requires.several in
+    let same = count_is c.args.marks.now.items c.args.at c.index-mark.result.now (omega arith) c.index-mark.ensures in
+    let long = (at_mark (nodes_of c.args.pool.now) c.args.marks.now.items c.requires.marked c.args.at c.index-mark.result.now c.places_differ.ensures.apart (omega arith) c.index-mark.ensures).long in
+    omega arith

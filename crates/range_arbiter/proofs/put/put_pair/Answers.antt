@@ -1,5 +1,6 @@
-use Rattle.std.proofs.Common.{◌≡◌, ◌<◌, ◌+◌, length, refl, arith, sym, subst}
-use Rattle.range_arbiter.specs.Nodes.{nodes_of}
+use Rattle.std.proofs.Common.{rules, ◌≡◌, ◌<◌, ◌+◌, ◌∙◌, [], length, refl, arith, sym, ap, subst}
+use Rattle.range_arbiter.specs.Pairs.{pairs_with}
+use Rattle.range_arbiter.specs.Nodes.{nodes_of, pairs_of}
 use Rattle.range_arbiter.specs.Runs.{IsPut, IsFound}
 use Rattle.range_arbiter.proofs.Running.{are_long}
 use Rattle.range_arbiter.proofs.Placing.{found_behind, found_put, found_pairs, none_there}
@@ -28,3 +29,13 @@ returns-clause-pairs c =
     let found = subst (λ l. IsFound (nodes_of c.args.pool.now) l c.args.pair c.find-spot.result) c.deref.ensures.value c.find-spot.ensures in
     found_pairs (nodes_of c.args.pool.now) (nodes_of c.put_node-place.new.pool) c.args.marks.now.items c.args.pair c.find-spot.result c.put_node-place.result.node found c.places_differ.ensures.apart
     c.put_node-place.ensures.nodes c.requires.in_order c.requires.kinds
+
+pub put_first-requires-clause-none : goal.put_first-requires-clause-none
+put_first-requires-clause-none c =
+    let none : c.args.marks.now.items ≡ [] = search rules in
+    none_there (nodes_of c.args.pool.now) c.args.marks.now.items c.requires.marked none
+
+pub returns-then-is_empty-clause-pairs : goal.returns-then-is_empty-clause-pairs
+returns-then-is_empty-clause-pairs c =
+    let none : c.args.marks.now.items ≡ [] = search rules in
+    c.put_first.ensures.pairs ∙ ap (λ l. pairs_with (pairs_of l) c.args.pair) (sym (none_there (nodes_of c.args.pool.now) c.args.marks.now.items c.requires.marked none))
