@@ -134,7 +134,6 @@ after_is [] x y ys k n a same e = elim (eqb_tells x.0 k) [
     first_later : (zs : List Node) → Each (λ z. y.0 ≢ z) (places zs) → first_of zs ≡ Some n → ⊥
     first_later [] each e = cc
     first_later (z ∷ zs) each e = each.0 (same ∙ sym (same_some z.0 n e))
-
 after_is (z ∷ zs) x y ys k n a same e = elim (eqb_tells z.0 k) [
   | inl h ↦ absurd (not_first zs x y ys n a.1 same (subst (λ b. cond b (first_of (zs ++ x ∷ y ∷ ys)) (after_of k (zs ++ x ∷ y ∷ ys)) ≡ Some n) h.0 e))
   | inr h ↦ after_is zs x y ys k n a.1 same (subst (λ b. cond b (first_of (zs ++ x ∷ y ∷ ys)) (after_of k (zs ++ x ∷ y ∷ ys)) ≡ Some n) h.0 e)

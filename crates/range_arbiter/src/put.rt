@@ -68,7 +68,13 @@ fn known_anew(pool: &Pool<(Owner, Res)>, mark: Mark) -> Mark
 }
 
 /// Notes a pair that was put in as one of its run.
-fn note_within(pool: &Pool<(Owner, Res)>, marks: &mut Vec<Mark>, spot: Spot, place: Place, pair: (Owner, Res))
+fn note_within(
+    pool: &Pool<(Owner, Res)>,
+    marks: &mut Vec<Mark>,
+    spot: Spot,
+    place: Place,
+    pair: (Owner, Res),
+)
     requires one { length pool.now.chains ≡ 1 }
     requires put { IsPut (nodes_of pool.now) marks.old.items (place.node, pair) spot }
     requires within { spot.at < vec_len marks.old }
@@ -147,7 +153,13 @@ fn part(pool: &Pool<(Owner, Res)>, marks: &mut Vec<Mark>, at: usize)
 
 /// Notes a pair that was put in. Where its run is full and a mark more has place, it comes into a run of its own at an end of
 /// that, or the run is parted. Cost: that of `note_within`, and the number of marks where there is one more.
-fn note(pool: &Pool<(Owner, Res)>, marks: &mut Vec<Mark>, spot: Spot, place: Place, pair: (Owner, Res))
+fn note(
+    pool: &Pool<(Owner, Res)>,
+    marks: &mut Vec<Mark>,
+    spot: Spot,
+    place: Place,
+    pair: (Owner, Res),
+)
     requires one { length pool.now.chains ≡ 1 }
     requires put { IsPut (nodes_of pool.now) marks.old.items (place.node, pair) spot }
     requires within { spot.at < vec_len marks.old }
@@ -181,7 +193,7 @@ fn put_first(pool: &mut Pool<(Owner, Res)>, marks: &mut Vec<Mark>, pair: (Owner,
     ensures capacity { vec_capacity marks.new ≡ vec_capacity marks.old }
 {
     let place = put_node(pool, None, &pair);
-    let _ = marks.push(Mark::single(place, pair));
+    marks.push_reserved(Mark::single(place, pair));
 }
 
 /// Puts a pair in at its place. It takes no memory. Cost: the logarithm of the number of marks, and the pairs of one run;

@@ -139,12 +139,7 @@ fn past_known(known: &Option<Known>, want: &Want, from: u64) -> Option<Result<u6
 }
 
 /// Moves a bound past the pairs of a run, at once where that can be. An end is told as of a start.
-fn past_run(
-    pool: &Pool<(Owner, Res)>,
-    mark: &Mark,
-    want: &Want,
-    from: u64,
-) -> Result<u64, Ended>
+fn past_run(pool: &Pool<(Owner, Res)>, mark: &Mark, want: &Want, from: u64) -> Result<u64, Ended>
     requires stands { Stands pool.now 0 mark.now.first.node }
     requires long { mark.now.count ≤ length (tail_of mark.now.first.node (nodes_of pool.now)) }
     requires known { IfSome mark.now.known (λ k. Knows (pairs_at (nodes_of pool.now) mark.now.first.node mark.now.count) k) }

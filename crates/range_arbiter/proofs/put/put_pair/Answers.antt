@@ -1,4 +1,5 @@
-use Rattle.std.proofs.Common.{rules, ◌≡◌, ◌<◌, ◌+◌, ◌∙◌, [], length, refl, arith, sym, ap, subst}
+use Rattle.std.proofs.Common.{◌≡◌, ◌<◌, ◌+◌, ◌∙◌, [], length, refl, arith, sym, ap, subst}
+use Rattle.std.proofs.lemmas.Grind.{common_steps}
 use Rattle.range_arbiter.specs.Pairs.{pairs_with}
 use Rattle.range_arbiter.specs.Nodes.{nodes_of, pairs_of}
 use Rattle.range_arbiter.specs.Runs.{IsPut, IsFound}
@@ -32,10 +33,10 @@ returns-clause-pairs c =
 
 pub put_first-requires-clause-none : goal.put_first-requires-clause-none
 put_first-requires-clause-none c =
-    let none : c.args.marks.now.items ≡ [] = search rules in
+    let none : c.args.marks.now.items ≡ [] = grind (arith, common_steps) in
     none_there (nodes_of c.args.pool.now) c.args.marks.now.items c.requires.marked none
 
 pub returns-then-is_empty-clause-pairs : goal.returns-then-is_empty-clause-pairs
 returns-then-is_empty-clause-pairs c =
-    let none : c.args.marks.now.items ≡ [] = search rules in
+    let none : c.args.marks.now.items ≡ [] = grind (arith, common_steps) in
     c.put_first.ensures.pairs ∙ ap (λ l. pairs_with (pairs_of l) c.args.pair) (sym (none_there (nodes_of c.args.pool.now) c.args.marks.now.items c.requires.marked none))

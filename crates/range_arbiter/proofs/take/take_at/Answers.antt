@@ -35,9 +35,11 @@ without-rest-requires-clause-first c =
     let ms = c.args.marks.now.items in
     let x : Node = (c.args.place.node, held.pair) in
     let size = c.args.marks.now.ok.0 in
-    let within = c.requires.within in
-    (omega arith, (at_run nodes (joined (take c.args.at held.runs)) (held.front ++ x ∷ held.back) (joined (drop (c.args.at + 1) held.runs)) c.index-2.result.now (held_whole nodes ms c.args.at c.args.place.node held) c.places_differ.ensures.apart
-        (held_run nodes ms c.args.at c.args.place.node held c.index-2.result.now (omega arith) c.index-2.ensures)).first)
+    let within = c.requires.within in (
+      omega arith,
+      (at_run nodes (joined (take c.args.at held.runs)) (held.front ++ x ∷ held.back) (joined (drop (c.args.at + 1) held.runs)) c.index-2.result.now (held_whole nodes ms c.args.at c.args.place.node held) c.places_differ.ensures.apart
+          (held_run nodes ms c.args.at c.args.place.node held c.index-2.result.now (omega arith) c.index-2.ensures)).first,
+    )
 
 pub without-rest-requires-clause-several : goal.without-rest-requires-clause-several
 without-rest-requires-clause-several c =
