@@ -1,5 +1,5 @@
 -- What is known of pairs, with one more, in another order and by a pass over them.
-use Rattle.std.proofs.Common.{◌≡◌, ℕ, Bool, IsTrue, true, false, inl, inr, List, [], ◌∷◌, ◌++◌, refl, sym, subst, None, Some, Option, take, drop, insert, ◌+◌, ◌<◌, length, get_or}
+use Rattle.std.proofs.Common.{◌≡◌, Bool, IsTrue, true, false, inl, inr, List, [], ◌∷◌, ◌++◌, refl, sym, subst, None, Some, Option}
 use Rattle.std.proofs.lemmas.Bool.{both_ways, cases_Bool}
 use Rattle.range_arbiter.specs.Pairs.{Pair, pairs_with, is_before}
 use Rattle.range_arbiter.specs.Orders.{In}

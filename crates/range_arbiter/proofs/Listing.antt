@@ -1,6 +1,6 @@
 -- Lists of pairs, by position and in order, and where a pair goes.
 use Rattle.std.specs.Prelude.{not, slice_get, Some}
-use Rattle.std.proofs.Common.{◌≡◌, ℕ, Bool, suc, zero, true, false, ◌+◌, ◌-◌, ◌<◌, ◌≤◌, ◌⊎◌, inl, inr, List, [], ◌∷◌, ◌++◌, refl, sym, ◌∙◌, ap, subst, arith, take, drop, length, get_or, set, remove}
+use Rattle.std.proofs.Common.{◌≡◌, ℕ, Bool, suc, zero, true, false, ◌+◌, ◌<◌, ◌≤◌, inl, inr, List, [], ◌∷◌, ◌++◌, refl, sym, ◌∙◌, ap, subst, arith, take, drop, length, get_or, set, remove}
 use Rattle.std.proofs.lemmas.List.{set_split, set-get_or, take_more, drop_all}
 use Rattle.std.proofs.lemmas.Bool.{both_ways}
 use Rattle.range_arbiter.specs.Pairs.{Pair, is_before, pairs_with}

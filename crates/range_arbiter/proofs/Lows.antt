@@ -1,6 +1,6 @@
 -- The marks parted at a pair, by the first pairs of their runs.
 use Rattle.std.specs.Prelude.{not}
-use Rattle.std.proofs.Common.{◌≡◌, ℕ, zero, suc, true, false, ◌+◌, ◌-◌, ◌<◌, ◌≤◌, ◌⊎◌, inl, inr, List, [], ◌∷◌, refl, sym, ◌∙◌, ap, subst, arith, drop, length, get_or}
+use Rattle.std.proofs.Common.{◌≡◌, ℕ, zero, suc, true, false, ◌-◌, ◌<◌, ◌≤◌, ◌⊎◌, inl, inr, List, [], ◌∷◌, refl, sym, ◌∙◌, ap, subst, arith, drop, length, get_or}
 use Rattle.range_arbiter.specs.Pairs.{Pair, is_before}
 use Rattle.range_arbiter.specs.Orders.{In, IsOrdered}
 use Rattle.range_arbiter.specs.Runs.{lows}

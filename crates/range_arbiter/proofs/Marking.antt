@@ -1,16 +1,16 @@
 -- Marks of a run that changes.
-use Rattle.std.proofs.Common.{◌≡◌, ◌≢◌, ℕ, zero, suc, ◌+◌, ◌<◌, ◌≤◌, ◌⊎◌, inl, inr, List, [], ◌∷◌, ◌++◌, Option, Some, None, IfSome, refl, sym, ◌∙◌, ap, subst, arith, append_assoc, append-nil, length, length-append}
+use Rattle.std.proofs.Common.{◌≡◌, ◌≢◌, ℕ, ◌+◌, inl, inr, List, [], ◌∷◌, ◌++◌, Option, Some, None, IfSome, refl, sym, ◌∙◌, ap, subst, arith, append_assoc, append-nil, length-append}
 use Rattle.std.proofs.lemmas.Option.{IfSome_then}
-use Rattle.node_pool.specs.Chains.{Each, Apart, places, tail_of, without_place}
+use Rattle.node_pool.specs.Chains.{Each, Apart, places, without_place}
 use Rattle.node_pool.specs.declared.pool.Place.{Place}
 use Rattle.range_arbiter.specs.Pairs.{Pair}
 use Rattle.range_arbiter.specs.Orders.{In}
 use Rattle.range_arbiter.specs.Known.{Knows}
 use Rattle.range_arbiter.specs.Nodes.{Node, pairs_of}
-use Rattle.range_arbiter.specs.Runs.{IsRun, IsFirst, IsLast, EndsAt}
+use Rattle.range_arbiter.specs.Runs.{IsRun, IsLast, EndsAt}
 use Rattle.range_arbiter.specs.declared.mark.Mark.{Mark}
 use Rattle.range_arbiter.specs.declared.known.Known.{Known}
-use Rattle.range_arbiter.proofs.Noding.{pairs_append, each_at, apart_without, apart_middle, tail_at, without_at_place}
+use Rattle.range_arbiter.proofs.Noding.{pairs_append, each_at, without_at_place}
 use Rattle.range_arbiter.proofs.InOrder.{in_append, in_left, in_right}
 use Rattle.range_arbiter.proofs.Knowing.{knows_same}
 

@@ -1,8 +1,7 @@
 -- Lists of nodes: what a pool tells of a chain that is parted at one of them, and their pairs.
-use Rattle.std.proofs.Common.{◌≡◌, ◌≢◌, ℕ, zero, suc, Bool, true, false, ◌+◌, ◌<◌, ◌≤◌, ◌⊎◌, inl, inr, cond, eqb, List, [], ◌∷◌, ◌++◌, Contains, Option, Some, None, refl, sym, ◌∙◌, ap, subst, arith, append_assoc, take, drop, length, get_or, set, length-append}
+use Rattle.std.proofs.Common.{◌≡◌, ◌≢◌, ℕ, zero, suc, inl, inr, cond, List, [], ◌∷◌, ◌++◌, Contains, Some, refl, sym, ◌∙◌, ap, subst, arith, take, drop, length, get_or, set}
 use Rattle.std.proofs.lemmas.Bool.Decides.{eqb_tells}
 use Rattle.node_pool.specs.Chains.{Each, Apart, places, first_of, after_of, tail_of, inserted_behind, without_place}
-use Rattle.range_arbiter.specs.Pairs.{Pair}
 use Rattle.range_arbiter.specs.Nodes.{Node, pairs_of}
 
 -- their pairs

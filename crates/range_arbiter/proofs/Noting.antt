@@ -1,16 +1,15 @@
 -- What a put and a take leave of a run, and the first and last place of a run without one of its nodes.
-use Rattle.std.proofs.Common.{◌≡◌, ◌≢◌, ℕ, zero, suc, ◌+◌, ◌-◌, ◌<◌, ◌≤◌, ◌⊎◌, inl, inr, List, [], ◌∷◌, ◌++◌, Contains, Option, Some, None, IfSome, refl, sym, ◌∙◌, ap, ap₂, subst, arith, append_assoc, append-nil, take, drop, length, get_or, set, insert, remove, length-append, ◌^◌}
-use Rattle.std.proofs.lemmas.Option.{IfSome_then}
-use Rattle.node_pool.specs.Chains.{Each, Apart, places, tail_of, without_place}
+use Rattle.std.proofs.Common.{◌≡◌, ◌≢◌, ℕ, zero, suc, ◌+◌, ◌-◌, ◌<◌, ◌⊎◌, inl, inr, List, [], ◌∷◌, ◌++◌, Contains, Some, None, IfSome, refl, sym, ◌∙◌, ap, subst, arith, append_assoc, append-nil, take, drop, length, get_or, set, insert, remove, length-append, ◌^◌}
+use Rattle.node_pool.specs.Chains.{Apart, places, tail_of, without_place}
 use Rattle.node_pool.specs.declared.pool.Place.{Place}
 use Rattle.range_arbiter.specs.Pairs.{Pair}
 use Rattle.range_arbiter.specs.Known.{Knows}
-use Rattle.range_arbiter.specs.Nodes.{Node, pairs_of, run_at}
-use Rattle.range_arbiter.specs.Runs.{joined, IsRun, IsFirst, IsLast, AreRuns, EndsAt, IsMarked, IsPut, IsHeld}
+use Rattle.range_arbiter.specs.Nodes.{Node, pairs_of}
+use Rattle.range_arbiter.specs.Runs.{joined, IsRun, IsFirst, IsLast, EndsAt, IsMarked, IsPut, IsHeld}
 use Rattle.range_arbiter.specs.declared.mark.Mark.{Mark}
 use Rattle.range_arbiter.specs.declared.put.Spot.{Spot}
-use Rattle.range_arbiter.proofs.Noding.{each_at, tail_at, apart_middle, apart_without, without_at_place, stands_at}
-use Rattle.range_arbiter.proofs.Running.{joined_at, run_is, are_long, AtRun, at_run}
+use Rattle.range_arbiter.proofs.Noding.{each_at, tail_at, apart_middle, without_at_place, stands_at}
+use Rattle.range_arbiter.proofs.Running.{joined_at, run_is}
 use Rattle.range_arbiter.proofs.Marking.{last_behind, last_still, apart_from_last, same_end}
 use Rattle.range_arbiter.proofs.Spotting.{ends_somewhere}
 use Rattle.range_arbiter.proofs.Parting.{marked_set, marked_remove, marked_behind, marked_front}

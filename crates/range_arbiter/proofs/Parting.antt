@@ -1,21 +1,19 @@
 -- Marks once a run is parted or changed, once one goes, and once two are joined.
-use Rattle.std.proofs.Common.{◌≡◌, ◌≢◌, ℕ, zero, suc, ◌+◌, ◌-◌, ◌<◌, ◌≤◌, ◌⊎◌, inl, inr, List, [], ◌∷◌, ◌++◌, Option, Some, None, IfSome, refl, sym, ◌∙◌, ap, ap₂, subst, arith, append_assoc, append-nil, take, drop, length, get_or, set, insert, remove, length-append}
-use Rattle.std.proofs.lemmas.List.{take-append-drop, take_more, take_more_set, drop-set-lt, drop_more, drop_all, take-append-le, length-take-le, take-take, set-append_left, length-drop}
+use Rattle.std.proofs.Common.{◌≡◌, ℕ, zero, suc, ◌+◌, ◌<◌, ◌≤◌, List, [], ◌∷◌, ◌++◌, None, IfSome, refl, sym, ◌∙◌, ap, ap₂, subst, arith, append_assoc, take, drop, length, get_or, set, insert, remove, length-append}
+use Rattle.std.proofs.lemmas.List.{take-append-drop, take_more_set, drop-set-lt, drop_all, take-append-le, length-take-le, take-take, set-append_left}
 use Rattle.std.proofs.lemmas.List.Edits.{get_or-remove_below}
 use Rattle.std.proofs.Math.Seq.{take-append_seam}
-use Rattle.node_pool.specs.Chains.{Each, Apart, places, tail_of, without_place}
+use Rattle.node_pool.specs.Chains.{Apart, places, tail_of, without_place}
 use Rattle.node_pool.specs.declared.pool.Place.{Place}
 use Rattle.range_arbiter.specs.Pairs.{Pair}
 use Rattle.range_arbiter.specs.Known.{Knows}
 use Rattle.range_arbiter.specs.Nodes.{Node, pairs_of, run_at}
-use Rattle.range_arbiter.specs.Runs.{joined, IsRun, IsFirst, IsLast, AreRuns, EndsAt, IsMarked, IsPut, IsHeld, counts}
+use Rattle.range_arbiter.specs.Runs.{joined, IsRun, IsLast, AreRuns, IsMarked}
 use Rattle.range_arbiter.specs.declared.mark.Mark.{Mark}
-use Rattle.range_arbiter.specs.declared.put.Spot.{Spot}
-use Rattle.range_arbiter.proofs.Listing.{remove_is, split_set, split_at, same_default}
-use Rattle.range_arbiter.proofs.Noding.{each_at, tail_at, apart_right, without_at_place}
+use Rattle.range_arbiter.proofs.Listing.{remove_is, split_set}
+use Rattle.range_arbiter.proofs.Noding.{tail_at}
 use Rattle.range_arbiter.proofs.Running.{joined_append, joined_at, joined_set, joined_insert, joined_remove, joined_next, joined_drop, run_is, are_long, are_set, are_insert, are_remove}
-use Rattle.range_arbiter.proofs.Marking.{end_of, last_behind, last_still, apart_from_last, same_end}
-use Rattle.range_arbiter.proofs.Spotting.{ends_somewhere}
+use Rattle.range_arbiter.proofs.Marking.{last_behind}
 
 -- A run that is another one.
 pub marked_set : (nodes : List Node) (rs : List (List Node)) (ms : List Mark) (at : ℕ) (r : List Node) (m : Mark) → AreRuns rs ms → at < length rs

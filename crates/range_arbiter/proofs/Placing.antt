@@ -1,5 +1,5 @@
 -- The place of a pair among the runs, and the chain once it stands there, or does no more.
-use Rattle.std.proofs.Common.{◌≡◌, ℕ, zero, suc, true, false, ◌+◌, ◌<◌, ◌≤◌, ◌⊎◌, inl, inr, List, [], ◌∷◌, ◌++◌, Contains, Option, Some, None, IfSome, refl, sym, ◌∙◌, ap, ap₂, subst, arith, append_assoc, append-nil, take, drop, length, get_or}
+use Rattle.std.proofs.Common.{◌≡◌, ℕ, zero, suc, true, false, ◌+◌, ◌<◌, ◌⊎◌, inl, inr, List, [], ◌∷◌, ◌++◌, Contains, Option, Some, None, IfSome, refl, sym, ◌∙◌, ap, ap₂, subst, arith, append_assoc, take, drop, length, get_or}
 use Rattle.std.proofs.lemmas.Bool.{cases_Bool, both_ways}
 use Rattle.node_pool.specs.Chains.{Chains, Stands, Apart, places, inserted, without_place}
 use Rattle.node_pool.specs.Places.{place_number}
@@ -11,7 +11,7 @@ use Rattle.range_arbiter.specs.Runs.{joined, IsRun, AreRuns, EndsAt, IsSpot, IsP
 use Rattle.range_arbiter.specs.declared.mark.Mark.{Mark}
 use Rattle.range_arbiter.specs.declared.put.Spot.{Spot}
 use Rattle.range_arbiter.proofs.PairOrder.{before_itself, not_before_trans}
-use Rattle.range_arbiter.proofs.InOrder.{in_append, in_left, in_right, ordered_left, ordered_right, ordered_across}
+use Rattle.range_arbiter.proofs.InOrder.{in_append, ordered_left, ordered_right, ordered_across}
 use Rattle.range_arbiter.proofs.Listing.{with_at, without_at}
 use Rattle.range_arbiter.proofs.Noding.{pairs_append, stands_at, inserted_at, without_at_place}
 use Rattle.range_arbiter.proofs.Running.{joined_at, low_is, run_is, are_long}

@@ -1,15 +1,14 @@
 -- Runs of nodes, and the marks that stand for them.
-use Rattle.std.proofs.Common.{◌≡◌, ℕ, zero, suc, false, ◌+◌, ◌<◌, ◌≤◌, ◌⊎◌, inl, inr, List, [], ◌∷◌, ◌++◌, Contains, refl, sym, ◌∙◌, ap, ap₂, subst, arith, append_assoc, append-nil, take, drop, length, get_or, set, insert, remove, length-append}
-use Rattle.std.proofs.lemmas.List.{take-append-drop, take-append-le}
+use Rattle.std.proofs.Common.{◌≡◌, ℕ, zero, suc, ◌+◌, ◌<◌, ◌≤◌, inl, inr, List, [], ◌∷◌, ◌++◌, Contains, refl, sym, ◌∙◌, ap, ap₂, subst, arith, append_assoc, append-nil, take, drop, length, get_or, set, insert, remove, length-append}
 use Rattle.std.proofs.Math.Seq.{take-append_seam}
 use Rattle.node_pool.specs.Chains.{Apart, places, tail_of}
-use Rattle.range_arbiter.specs.Pairs.{Pair, is_before}
+use Rattle.range_arbiter.specs.Pairs.{Pair}
 use Rattle.range_arbiter.specs.Orders.{In, IsOrdered}
 use Rattle.range_arbiter.specs.Nodes.{Node, pairs_of, run_at}
 use Rattle.range_arbiter.specs.Runs.{joined, IsRun, AreRuns, IsMarked, lows, counts}
 use Rattle.range_arbiter.specs.declared.mark.Mark.{Mark}
 use Rattle.range_arbiter.proofs.Noding.{pairs_append, stands_at, tail_at}
-use Rattle.range_arbiter.proofs.InOrder.{in_append, in_left, in_right, ordered_left, ordered_right, ordered_across}
+use Rattle.range_arbiter.proofs.InOrder.{in_left, in_right, ordered_right, ordered_across}
 use Rattle.range_arbiter.proofs.Listing.{split_at, split_set}
 
 pub joined_append : (xs ys : List (List Node)) → joined (xs ++ ys) ≡ joined xs ++ joined ys

@@ -1,14 +1,13 @@
 -- The place of a pair in a run, which is sought from its end.
-use Rattle.std.proofs.Common.{◌≡◌, ◌≢◌, ℕ, zero, suc, true, false, ◌+◌, ◌<◌, ◌≤◌, ◌⊎◌, inl, inr, List, [], ◌∷◌, ◌++◌, Contains, refl, sym, ◌∙◌, ap, subst, arith, append_assoc, append-nil, length, length-append}
-use Rattle.node_pool.specs.Chains.{Each, Apart, places, tail_of}
+use Rattle.std.proofs.Common.{◌≡◌, ◌≢◌, ℕ, true, false, ◌+◌, ◌≤◌, inl, inr, List, [], ◌∷◌, ◌++◌, refl, sym, ◌∙◌, ap, subst, arith, append_assoc, length, length-append}
+use Rattle.node_pool.specs.Chains.{Apart, places, tail_of}
 use Rattle.node_pool.specs.declared.pool.Place.{Place}
 use Rattle.range_arbiter.specs.Pairs.{Pair, is_before}
 use Rattle.range_arbiter.specs.Orders.{In}
 use Rattle.range_arbiter.specs.Nodes.{Node, pairs_of}
-use Rattle.range_arbiter.specs.Runs.{IsRun, IsSpot}
+use Rattle.range_arbiter.specs.Runs.{IsRun}
 use Rattle.range_arbiter.specs.declared.mark.Mark.{Mark}
-use Rattle.range_arbiter.proofs.Noding.{each_at, tail_at, apart_middle}
-use Rattle.range_arbiter.proofs.Marking.{same_end}
+use Rattle.range_arbiter.proofs.Noding.{each_at, tail_at}
 
 -- so many nodes of the run are behind this one, and their pairs come after that pair
 pub record IsReached (run : List Node) (p : Pair) (turn place : ℕ) : Type 0 where

@@ -1,7 +1,6 @@
 -- A walk along a chain: what is left of it behind so many nodes, and the pairs that were seen.
-use Rattle.std.proofs.Common.{◌≡◌, ℕ, zero, suc, ◌+◌, ◌<◌, ◌≤◌, List, [], ◌∷◌, refl, sym, ◌∙◌, ap, subst, arith, take, drop, length, get_or}
+use Rattle.std.proofs.Common.{◌≡◌, ℕ, zero, suc, ◌+◌, ◌<◌, ◌≤◌, List, [], ◌∷◌, refl, sym, ◌∙◌, ap, arith, take, drop, length, get_or}
 use Rattle.std.proofs.lemmas.List.{length-take-le}
-use Rattle.range_arbiter.specs.Pairs.{Pair}
 use Rattle.range_arbiter.specs.Nodes.{Node, pairs_of}
 use Rattle.range_arbiter.proofs.Noding.{length-pairs}
 

@@ -1,5 +1,5 @@
 -- What an arbiter keeps. No public contract cites this.
-use Rattle.std.specs.Prelude.{◌≡◌, ℕ, ◌<◌, List, length, Vec, vec_capacity}
+use Rattle.std.specs.Prelude.{◌≡◌, ◌<◌, length, Vec, vec_capacity}
 use Rattle.std.specs.declared.alloc.Global.{Global}
 use Rattle.node_pool.specs.Chains.{Chains}
 use Rattle.resource_reqs.specs.declared.kind.Kind.{Kind}

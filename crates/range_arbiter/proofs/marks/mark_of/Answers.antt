@@ -1,8 +1,7 @@
-use Rattle.std.proofs.Common.{◌≡◌, ◌<◌, ◌+◌, ◌-◌, ◌⊎◌, List, rules, arith, sym, subst, false, true, length, get_or, drop, ◌∙◌, ap, inl, inr}
+use Rattle.std.proofs.Common.{◌≡◌, ◌+◌, ◌-◌, ◌⊎◌, rules, arith, sym, subst, false, length, get_or, ◌∙◌, ap, inr}
 use Rattle.std.specs.Prelude.{not}
 use Rattle.std.proofs.lemmas.List.Sorted.{IsPartitionPoint-from_clause}
-use Rattle.range_arbiter.specs.Pairs.{Pair, is_before}
-use Rattle.range_arbiter.specs.Orders.{In}
+use Rattle.range_arbiter.specs.Pairs.{is_before}
 use Rattle.range_arbiter.specs.Runs.{lows}
 use Rattle.range_arbiter.specs.declared.mark.Mark.{Mark}
 use Rattle.range_arbiter.proofs.Running.{low_is, length-lows}

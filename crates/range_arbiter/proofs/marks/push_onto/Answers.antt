@@ -1,8 +1,8 @@
-use Rattle.std.proofs.Common.{◌≡◌, ◌<◌, ◌≤◌, ◌+◌, ◌++◌, List, [], length, take, drop, get_or, refl, sym, ◌∙◌, ap, subst, arith, append-nil, append_assoc}
+use Rattle.std.proofs.Common.{◌++◌, [], take, get_or, sym, ◌∙◌, ap, arith, append-nil, append_assoc}
 use Rattle.std.proofs.lemmas.List.{take_all}
 use Rattle.range_arbiter.specs.Nodes.{nodes_of, pairs_of, pairs_at}
 use Rattle.range_arbiter.specs.Runs.{joined}
-use Rattle.range_arbiter.proofs.Running.{at_mark, run_is, are_long, joined_pairs_next}
+use Rattle.range_arbiter.proofs.Running.{at_mark, are_long, joined_pairs_next}
 use Rattle.range_arbiter.proofs.marks.push_onto.Goals as goal
 
 pub loop-mark-init : goal.loop-mark-init

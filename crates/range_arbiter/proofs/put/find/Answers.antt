@@ -1,4 +1,4 @@
-use Rattle.std.proofs.Common.{◌≡◌, ◌<◌, ◌+◌, [], length, get_or, take, drop, arith, sym, ap, subst, ◌∙◌}
+use Rattle.std.proofs.Common.{◌+◌, [], get_or, take, drop, arith, subst, ◌∙◌}
 use Rattle.range_arbiter.specs.Orders.{IsOrdered}
 use Rattle.range_arbiter.specs.Nodes.{nodes_of, pairs_of}
 use Rattle.range_arbiter.specs.Runs.{joined}

@@ -1,4 +1,4 @@
-use Rattle.std.proofs.Common.{◌≡◌, ◌<◌, ◌≤◌, length, arith}
+use Rattle.std.proofs.Common.{arith}
 use Rattle.range_arbiter.proofs.Running.{count_is}
 use Rattle.range_arbiter.proofs.put.is_full.Goals as goal
 

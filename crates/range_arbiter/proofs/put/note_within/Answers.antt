@@ -1,4 +1,4 @@
-use Rattle.std.proofs.Common.{◌≡◌, ◌<◌, ◌+◌, ◌++◌, ◌∷◌, [], length, get_or, take, drop, arith, sym, ap, subst, ◌∙◌}
+use Rattle.std.proofs.Common.{◌+◌, ◌++◌, ◌∷◌, take, drop, arith}
 use Rattle.range_arbiter.specs.Nodes.{Node, nodes_of}
 use Rattle.range_arbiter.specs.Runs.{joined}
 use Rattle.range_arbiter.proofs.Running.{are_long, at_run, count_is, counts_set}

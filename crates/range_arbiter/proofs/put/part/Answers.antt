@@ -1,4 +1,4 @@
-use Rattle.std.proofs.Common.{rules, ◌≡◌, ◌<◌, ◌≤◌, ◌+◌, ◌-◌, Some, None, length, drop, set, insert, refl, sym, ap, subst, arith}
+use Rattle.std.proofs.Common.{rules, ◌≡◌, ◌+◌, ◌-◌, Some, None, length, set, insert, refl, sym, ap, subst, arith}
 use Rattle.node_pool.specs.Chains.{tail_of}
 use Rattle.range_arbiter.specs.Nodes.{nodes_of}
 use Rattle.range_arbiter.specs.Runs.{IsMarked}

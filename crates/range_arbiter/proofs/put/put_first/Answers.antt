@@ -1,4 +1,4 @@
-use Rattle.std.proofs.Common.{◌≡◌, ◌<◌, ◌++◌, ◌∷◌, [], length, sym, ◌∙◌, ap, subst, arith}
+use Rattle.std.proofs.Common.{◌≡◌, ◌++◌, ◌∷◌, [], length, sym, ◌∙◌, ap, subst, arith}
 use Rattle.range_arbiter.specs.Nodes.{Node, nodes_of}
 use Rattle.range_arbiter.specs.Runs.{IsMarked}
 use Rattle.range_arbiter.proofs.put.put_first.Goals as goal

@@ -1,8 +1,8 @@
-use Rattle.std.proofs.Common.{◌≡◌, ◌<◌, ◌+◌, ◌∙◌, [], length, refl, arith, sym, ap, subst}
+use Rattle.std.proofs.Common.{◌≡◌, ◌∙◌, [], refl, arith, sym, ap, subst}
 use Rattle.std.proofs.lemmas.Grind.{common_steps}
 use Rattle.range_arbiter.specs.Pairs.{pairs_with}
 use Rattle.range_arbiter.specs.Nodes.{nodes_of, pairs_of}
-use Rattle.range_arbiter.specs.Runs.{IsPut, IsFound}
+use Rattle.range_arbiter.specs.Runs.{IsFound}
 use Rattle.range_arbiter.proofs.Running.{are_long}
 use Rattle.range_arbiter.proofs.Placing.{found_behind, found_put, found_pairs, none_there}
 use Rattle.range_arbiter.proofs.put.put_pair.Goals as goal

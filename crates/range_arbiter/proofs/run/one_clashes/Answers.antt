@@ -1,9 +1,9 @@
-use Rattle.std.proofs.Common.{◌≡◌, ◌<◌, ◌+◌, ◌++◌, ◌∷◌, [], Bool, false, take, length, get_or, refl, sym, ◌∙◌, ap, subst, arith}
+use Rattle.std.proofs.Common.{◌≡◌, ◌<◌, ◌+◌, ◌∷◌, [], take, length, get_or, refl, sym, ◌∙◌, ap, arith}
 use Rattle.std.specs.List.{list_any}
 use Rattle.std.proofs.lemmas.List.{take_all}
 use Rattle.node_pool.specs.Chains.{tail_of}
 use Rattle.resource_reqs.specs.Resources.{clashes}
-use Rattle.range_arbiter.specs.Pairs.{Pair, res_list}
+use Rattle.range_arbiter.specs.Pairs.{res_list}
 use Rattle.range_arbiter.specs.Nodes.{nodes_of, pairs_at}
 use Rattle.range_arbiter.proofs.Listing.{item_in, take_item}
 use Rattle.range_arbiter.proofs.Clashing.{any_in, none_more, none_next}

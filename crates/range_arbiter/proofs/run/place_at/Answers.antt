@@ -1,4 +1,4 @@
-use Rattle.std.proofs.Common.{◌≡◌, ◌+◌, drop, refl, sym, ◌∙◌, ap, arith}
+use Rattle.std.proofs.Common.{◌≡◌, ◌+◌, drop, ◌∙◌, ap, arith}
 use Rattle.node_pool.specs.Chains.{tail_of}
 use Rattle.range_arbiter.specs.Nodes.{nodes_of}
 use Rattle.range_arbiter.proofs.Walking.{goes_on}

@@ -1,4 +1,4 @@
-use Rattle.std.proofs.Common.{◌≡◌, [], sym, ◌∙◌, subst, refl}
+use Rattle.std.proofs.Common.{[], sym, ◌∙◌, subst, refl}
 use Rattle.node_pool.specs.Chains.{Apart, places}
 use Rattle.range_arbiter.specs.Nodes.{nodes_of}
 use Rattle.range_arbiter.proofs.Noding.{apart_middle}

@@ -1,8 +1,5 @@
-use Rattle.std.proofs.Common.{subst, IfSome}
-use Rattle.std.specs.Prelude.{IfOk, IfErr}
 use Rattle.std.proofs.lemmas.Result.{IfOk-weaker, IfErr-weaker}
 use Rattle.range_arbiter.specs.Nodes.{nodes_of, pairs_at}
-use Rattle.range_arbiter.specs.Sweeps.{Cleared, EndedWith}
 use Rattle.range_arbiter.proofs.Sweeping.{cleared_passed, ended_from}
 use Rattle.range_arbiter.proofs.sweep.past_run.Goals as goal
 

@@ -1,9 +1,8 @@
-use Rattle.std.proofs.Common.{◌≡◌, ◌<◌, ◌≤◌, ◌++◌, ◌+◌, IfSome, [], List, length, get_or, take, drop, sym, ◌∙◌, ap, subst, arith}
+use Rattle.std.proofs.Common.{◌≡◌, ◌++◌, ◌+◌, IfSome, [], get_or, take, drop, sym, ◌∙◌, ap, subst, arith}
 use Rattle.std.proofs.lemmas.List.{take_all}
-use Rattle.range_arbiter.specs.Pairs.{Pair}
 use Rattle.range_arbiter.specs.Orders.{In, IsOrdered, AreOfKind}
 use Rattle.range_arbiter.specs.Known.{Knows}
-use Rattle.range_arbiter.specs.Nodes.{Node, nodes_of, pairs_of, run_at}
+use Rattle.range_arbiter.specs.Nodes.{nodes_of, pairs_of}
 use Rattle.range_arbiter.specs.Runs.{joined}
 use Rattle.range_arbiter.specs.Sweeps.{Cleared, EndedWith}
 use Rattle.range_arbiter.proofs.InOrder.{in_left, in_right, ordered_left, ordered_right}

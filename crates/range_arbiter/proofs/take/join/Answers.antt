@@ -1,6 +1,5 @@
-use Rattle.std.proofs.Common.{◌≡◌, ◌<◌, ◌+◌, ◌∙◌, remove, get_or, length, arith, sym, ap, subst}
+use Rattle.std.proofs.Common.{◌≡◌, ◌<◌, ◌+◌, ◌∙◌, get_or, length, arith, ap}
 use Rattle.std.proofs.lemmas.List.Edits.{get_or-remove_below}
-use Rattle.range_arbiter.specs.declared.mark.Mark.{Mark}
 use Rattle.range_arbiter.proofs.Running.{count_is}
 use Rattle.range_arbiter.proofs.Parting.{marked_joined}
 use Rattle.range_arbiter.proofs.take.join.Goals as goal

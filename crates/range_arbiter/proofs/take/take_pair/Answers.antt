@@ -1,4 +1,4 @@
-use Rattle.std.proofs.Common.{◌≡◌, ◌<◌, Some, None, length, arith, sym, subst}
+use Rattle.std.proofs.Common.{◌<◌, length, arith, sym, subst}
 use Rattle.range_arbiter.specs.Nodes.{nodes_of}
 use Rattle.range_arbiter.specs.Runs.{IsFound}
 use Rattle.range_arbiter.proofs.Running.{are_long}

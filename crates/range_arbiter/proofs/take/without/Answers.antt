@@ -1,4 +1,4 @@
-use Rattle.std.proofs.Common.{◌++◌, ◌∷◌, IfSome, subst, ap, refl, sym, ◌∙◌}
+use Rattle.std.proofs.Common.{◌++◌, ◌∷◌, IfSome, subst, refl}
 use Rattle.node_pool.specs.Chains.{places, Apart, tail_of}
 use Rattle.range_arbiter.specs.Known.{Knows}
 use Rattle.range_arbiter.specs.Nodes.{Node, nodes_of, pairs_of}

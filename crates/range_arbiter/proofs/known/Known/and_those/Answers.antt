@@ -1,4 +1,3 @@
-use Rattle.std.proofs.Common.{sym, ap, subst, refl, None, Some}
 use Rattle.range_arbiter.proofs.Knowing.{knows_both_none}
 use Rattle.range_arbiter.proofs.known.Known.and_those.Goals as goal
 

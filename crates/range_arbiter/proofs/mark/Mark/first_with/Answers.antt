@@ -1,4 +1,4 @@
-use Rattle.std.proofs.Common.{ap, sym, subst, refl}
+use Rattle.std.proofs.Common.{subst}
 use Rattle.range_arbiter.specs.Runs.{EndsAt}
 use Rattle.range_arbiter.proofs.Marking.{first_put, first_kept}
 use Rattle.range_arbiter.proofs.mark.Mark.first_with.Goals as goal

@@ -1,4 +1,4 @@
-use Rattle.std.proofs.Common.{IfSome, sym, ap, subst, refl, ◌++◌, ◌∷◌}
+use Rattle.std.proofs.Common.{refl, ◌++◌}
 use Rattle.range_arbiter.specs.Nodes.{pairs_of}
 use Rattle.range_arbiter.proofs.Noding.{apart_without}
 use Rattle.range_arbiter.proofs.Marking.{run_with}
