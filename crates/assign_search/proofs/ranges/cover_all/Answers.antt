@@ -2,7 +2,7 @@ use Rattle.std.proofs.Common.{◌≡◌, ◌++◌, ◌∷◌, List, Option, Resu
 use Rattle.resource_reqs.specs.Resources.{Res}
 use Rattle.assign_search.specs.Watching.{IsHit}
 use Rattle.assign_search.proofs.Covering.{hit_either}
-use Rattle.assign_search.proofs.places.cover_all.Goals as goal
+use Rattle.assign_search.proofs.ranges.cover_all.Goals as goal
 
 on_ok : {A E : Type 0} (r : Result A E) {P Q : Type 0} → (P → Q) → OnOk r P → OnOk r Q
 on_ok (Ok x) f p = f p

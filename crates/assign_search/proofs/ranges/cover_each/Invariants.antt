@@ -1,7 +1,7 @@
 use Rattle.std.proofs.Common.{◌≡◌, ◌<◌, ℕ, slice_get, Some}
 use Rattle.resource_reqs.specs.Resources.{Res, Clash}
 use Rattle.assign_search.specs.Watching.{IsHit}
-use Rattle.assign_search.proofs.places.cover_each.Given as goal
+use Rattle.assign_search.proofs.ranges.cover_each.Given as goal
 
 abbrev pub invariant-places : goal.invariant-places
 invariant-places l = record {

@@ -1,7 +1,7 @@
 use Rattle.std.proofs.Common.{◌≡◌, ◌∙◌, sym, ap, arith}
 use Rattle.resource_reqs.specs.Resources.{Res}
 use Rattle.assign_search.proofs.Covering.{wider_clash}
-use Rattle.assign_search.proofs.places.widened.Goals as goal
+use Rattle.assign_search.proofs.ranges.widened.Goals as goal
 
 pub returns-clause-range : goal.returns-clause-range
 returns-clause-range c x clash =

@@ -2,7 +2,7 @@ use Rattle.std.proofs.Common.{List, length, sym, ◌∙◌, ap, subst}
 use Rattle.resource_reqs.specs.Resources.{Res}
 use Rattle.assign_search.specs.Watching.{IsHit}
 use Rattle.assign_search.proofs.Covering.{whole}
-use Rattle.assign_search.proofs.places.cover.Goals as goal
+use Rattle.assign_search.proofs.ranges.cover.Goals as goal
 
 pub returns-in-Some-clause-wider : goal.returns-in-Some-clause-wider
 returns-in-Some-clause-wider c x hit =

@@ -3,7 +3,7 @@ use Rattle.std.proofs.lemmas.Option.{slice_get-get_or}
 use Rattle.resource_reqs.specs.Resources.{Res, Clash}
 use Rattle.resource_reqs.proofs.Loops.{none_next, none_any}
 use Rattle.assign_search.proofs.Rest.{false_true}
-use Rattle.assign_search.proofs.places.is_any_hit.Goals as goal
+use Rattle.assign_search.proofs.ranges.is_any_hit.Goals as goal
 
 pub hits-preserved : goal.hits-preserved
 hits-preserved c =

@@ -3,7 +3,7 @@ use native.Mathlib.Decide.{dec_lt}
 use Rattle.std.proofs.lemmas.Option.{slice_get_within}
 use Rattle.resource_reqs.specs.Resources.{Res, Clash}
 use Rattle.assign_search.proofs.Covering.{hit_at}
-use Rattle.assign_search.proofs.places.cover_each.Goals as goal
+use Rattle.assign_search.proofs.ranges.cover_each.Goals as goal
 
 pub places-preserved : goal.places-preserved
 places-preserved c = record {

@@ -2,7 +2,7 @@ use Rattle.std.proofs.Common.{◌≡◌, get_or, sym, subst}
 use Rattle.std.proofs.lemmas.Option.{get_or_from_slice_get}
 use Rattle.resource_reqs.specs.Resources.{Res, Clash}
 use Rattle.assign_search.proofs.Covering.{hit_wide, hit_wider}
-use Rattle.assign_search.proofs.places.widen.Goals as goal
+use Rattle.assign_search.proofs.ranges.widen.Goals as goal
 
 pub returns-clause-wider : goal.returns-clause-wider
 returns-clause-wider c x hit =
