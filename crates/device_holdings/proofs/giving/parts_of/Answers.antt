@@ -1,6 +1,6 @@
 use Rattle.std.proofs.Common.{◌∙◌, ◌++◌, [], ◌∷◌, Some, ap, sym}
 use Rattle.device_holdings.proofs.Putting.{front_at}
-use Rattle.device_holdings.proofs.holding.parts_of.Goals as goal
+use Rattle.device_holdings.proofs.giving.parts_of.Goals as goal
 
 pub parts-preserved : goal.parts-preserved
 parts-preserved c =
