@@ -7,5 +7,5 @@ pub mod RowOrder
 pub mod TieLemmas
 pub mod RowsAre
 pub mod Committing
-pub mod Noted
+pub mod Counting
 pub mod Idling

@@ -8,7 +8,7 @@ use Rattle.device_holdings.specs.Giving.{given, with_part}
 use Rattle.device_holdings.specs.Mirrors.{HasRoom}
 use Rattle.device_holdings.specs.Noting.{count_held}
 use Rattle.device_holdings.proofs.Committing.{room_next, room_first, last_part, none_yet, given_part}
-use Rattle.device_holdings.proofs.Noted.{to_note, enough, part_at, note_part, next_fits}
+use Rattle.device_holdings.proofs.Counting.{to_note, enough, part_at, note_part, next_fits}
 use Rattle.device_holdings.proofs.giving.give_each.Goals as goal
 use Rattle.device_holdings.proofs.giving.give_each.Goals.{In-Some}
 

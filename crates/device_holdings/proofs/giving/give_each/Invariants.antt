@@ -2,7 +2,7 @@ use Rattle.std.proofs.Common.{◌≡◌, ◌≤◌, ◌+◌, length, map, take, 
 use Rattle.trial_journal.specs.Journals.{GoesBack}
 use Rattle.device_holdings.specs.Giving.{with_part}
 use Rattle.device_holdings.specs.Mirrors.{KeepsMirror, HasRoom}
-use Rattle.device_holdings.proofs.Noted.{to_note}
+use Rattle.device_holdings.proofs.Counting.{to_note}
 use Rattle.device_holdings.proofs.giving.give_each.Given as goal
 
 abbrev pub invariant-parts : goal.invariant-parts

@@ -7,7 +7,7 @@ use Rattle.device_holdings.specs.Mirrors.{pairs_of, count_of, Mirrors}
 use Rattle.device_holdings.proofs.Apart.{holds_of, pairs_beside, swapped_out, old_first, longer, assigned}
 use Rattle.device_holdings.specs.Noting.{held_count}
 use Rattle.device_holdings.proofs.Committing.{spare_one, few_one}
-use Rattle.device_holdings.proofs.Noted.{count_is}
+use Rattle.device_holdings.proofs.Counting.{count_is}
 use Rattle.device_holdings.proofs.giving.replace.Goals as goal
 use Rattle.device_holdings.proofs.giving.replace.Goals.{After-swap_holds-old}
 

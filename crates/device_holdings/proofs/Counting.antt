@@ -1,12 +1,12 @@
 -- How many changes of the arbiters are left to be made, while devices get the parts of a plan from the last to the first.
-use Rattle.std.proofs.Common.{◌≡◌, ◌≢◌, ℕ, zero, suc, ◌+◌, ◌*◌, ◌<◌, ◌≤◌, ◌==◌, Bool, true, false, cond, eqb, List, [], ◌∷◌, ◌++◌, length, drop, get_or, slice_get, Option, Some, None, option_map, refl, sym, ap, ◌∙◌, subst, arith, inl, inr}
+use Rattle.std.proofs.Common.{◌≡◌, ◌≢◌, ℕ, zero, suc, ◌+◌, ◌*◌, ◌≤◌, cond, eqb, List, [], ◌∷◌, length, drop, get_or, slice_get, Option, Some, None, option_map, refl, sym, ap, ◌∙◌, subst, arith, inl, inr}
 use Rattle.std.proofs.lemmas.Bool.{cases_eq, eq-eqb, ne_eqb}
 use Rattle.std.proofs.lemmas.Bool.Decides.{nat_tests}
 use Rattle.resource_reqs.specs.Resources.{Res}
 use Rattle.pnp_model.specs.Keyed.{changed_first}
 use Rattle.pnp_model.specs.Cores.{is_node, node_at, with_holds}
 use Rattle.pnp_model.specs.Records.{Node}
-use Rattle.devnode_tree.specs.Trees.{Tree, changed}
+use Rattle.devnode_tree.specs.Trees.{Tree}
 use Rattle.device_holdings.specs.Giving.{given}
 use Rattle.device_holdings.specs.Noting.{held_count, count_held, changes_to}
 use Rattle.device_holdings.proofs.Apart.{holds_of, found_changed}
@@ -55,23 +55,25 @@ without_each s fewer held no_more k = elim (cases_eq k s) [
 
 take_less : (serials : List ℕ) (n : ℕ) (fewer held : ℕ → ℕ) → NoMore fewer held → to_take fewer serials n ≤ to_take held serials n
 take_less serials zero fewer held no_more = omega arith
-take_less serials (suc n) fewer held no_more = by_place (slice_get serials n)
+take_less serials (suc n) fewer held no_more = by_place (slice_get serials n) (take_less serials n)
   where
-    by_place : (o : Option ℕ) → taken_of fewer o (λ h. to_take h serials n) ≤ taken_of held o (λ h. to_take h serials n)
-    by_place None = take_less serials n fewer held no_more
-    by_place (Some s) =
+    by_place : (o : Option ℕ) → ((a b : ℕ → ℕ) → NoMore a b → to_take a serials n ≤ to_take b serials n)
+        → taken_of fewer o (λ h. to_take h serials n) ≤ taken_of held o (λ h. to_take h serials n)
+    by_place None earlier = earlier fewer held no_more
+    by_place (Some s) earlier =
         let here = no_more s in
-        let rest = take_less serials n (without s fewer) (without s held) (without_each s fewer held no_more) in omega arith
+        let rest = earlier (without s fewer) (without s held) (without_each s fewer held no_more) in omega arith
 
 -- a device that got a part, and all others no more than before
 pub take_part : (serials : List ℕ) (n s part : ℕ) (after held : ℕ → ℕ) → after s ≤ part → ((k : ℕ) → k ≢ s → after k ≤ held k)
     → to_take after serials n ≤ part + to_take (without s held) serials n
 take_part serials zero s part after held own others = omega arith
-take_part serials (suc n) s part after held own others = by_place (slice_get serials n)
+take_part serials (suc n) s part after held own others = by_place (slice_get serials n) (take_part serials n s part)
   where
-    by_place : (o : Option ℕ) → taken_of after o (λ h. to_take h serials n) ≤ part + taken_of (without s held) o (λ h. to_take h serials n)
-    by_place None = take_part serials n s part after held own others
-    by_place (Some r) = elim (cases_eq r s) [
+    by_place : (o : Option ℕ) → ((a b : ℕ → ℕ) → a s ≤ part → ((k : ℕ) → k ≢ s → a k ≤ b k) → to_take a serials n ≤ part + to_take (without s b) serials n)
+        → taken_of after o (λ h. to_take h serials n) ≤ part + taken_of (without s held) o (λ h. to_take h serials n)
+    by_place None earlier = earlier after held own others
+    by_place (Some r) earlier = elim (cases_eq r s) [
       | inl e ↦
           let here : after r ≤ part = subst (λ i. after i ≤ part) (sym e) own in
           let rest = take_less serials n (without r after) (without r (without s held)) (λ k. elim (cases_eq k r) [
@@ -86,7 +88,7 @@ take_part serials (suc n) s part after held own others = by_place (slice_get ser
       | inr ne ↦
           let here = others r ne in
           let same = without_other s held r ne in
-          let rest = take_part serials n s part (without r after) (without r held)
+          let rest = earlier (without r after) (without r held)
           (let less = without_less r after s in omega arith)
           (λ k apart. elim (cases_eq k r) [
             | inl is ↦ (let none : without r after k ≡ 0 = ap (without r after) is ∙ without_same r after in omega arith)
@@ -121,13 +123,12 @@ to_note nodes serials parts n = to_put parts n + to_take (held_now nodes) serial
 -- the count at the begin is enough
 pub enough : (nodes : List Node) (serials : List ℕ) (parts : List (List Res)) (n : ℕ) → to_note nodes serials parts n ≤ changes_to nodes serials parts n
 enough nodes serials parts zero = omega arith
-enough nodes serials parts (suc n) = by_place (slice_get serials n)
+enough nodes serials parts (suc n) = by_place (slice_get serials n) (enough nodes serials parts n)
   where
-    by_place : (o : Option ℕ) → to_put parts n + 2 * length (get_or parts n []) + taken_of (held_now nodes) o (λ h. to_take h serials n)
+    by_place : (o : Option ℕ) → to_note nodes serials parts n ≤ changes_to nodes serials parts n → to_put parts n + 2 * length (get_or parts n []) + taken_of (held_now nodes) o (λ h. to_take h serials n)
         ≤ changes_to nodes serials parts n + (2 * length (get_or parts n []) + count_held nodes o)
-    by_place None = let before = enough nodes serials parts n in omega arith
-    by_place (Some s) =
-        let before = enough nodes serials parts n in
+    by_place None before = omega arith
+    by_place (Some s) before =
         let less = take_less serials n (without s (held_now nodes)) (held_now nodes) (without_less s (held_now nodes)) in omega arith
 
 -- the part at a place
