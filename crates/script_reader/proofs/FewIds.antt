@@ -1,7 +1,7 @@
 -- The events of a script plug devices with at most 64 identifiers of each kind and alternatives of at most 16 groups, and name drivers by words.
 use Rattle.std.proofs.Common.{ℕ, ◌+◌, ◌≤◌, ◌≡◌, ◌≢◌, Bool, true, false, cond, List, [], ◌∷◌, length, Option, Some, None, Result, Ok, Err, refl, sym, subst, ap, suc, arith, nat_le}
 use Rattle.std.proofs.lemmas.Bool.Decides.{nat_tests}
-use Rattle.std.specs.Prelude.{codes}
+use Rattle.std.specs.Prelude.{codes, slice_index_or}
 use Rattle.std.specs.List.{AllByRecursion}
 use Rattle.std.specs.Option.{ok_or}
 use Rattle.std.specs.Result.{result_ok}
@@ -16,11 +16,12 @@ use Rattle.req_bytes.specs.Bytes.{reqs_in}
 use Rattle.req_bytes.specs.declared.error.BytesError.{BytesError}
 use Rattle.req_bytes.proofs.Within.{AllShort, ReadShort, read_short}
 use Rattle.script_reader.specs.Bytes.{hex_bytes}
-use Rattle.script_reader.specs.Faults.{Fault, ◌>>=◌, ok_if}
-use Rattle.script_reader.specs.Tables.{keyword_of}
-use Rattle.script_reader.specs.Wants.{each_of, all_of, id_in, ids_of, group_of, list_of, said, reqs_by_bytes}
+use Rattle.script_reader.specs.Faults.{Fault, fault, ◌>>=◌, ok_if}
+use Rattle.script_reader.specs.declared.cause.Cause.{Cause}
+use Rattle.script_reader.specs.Tables.{keyword_of, driver_kind_of, rel_kind_of, minor_of, ok_of, agrees_of}
+use Rattle.script_reader.specs.Wants.{each_of, all_of, id_of, id_in, ids_of, group_of, list_of, said}
 use Rattle.script_reader.specs.Words.{is_name, words_of}
-use Rattle.script_reader.specs.Lines.{read_line, read_by, plug_of, plugged, lone_path, event_at, name_of, once, reqs_from, values, event_of}
+use Rattle.script_reader.specs.Lines.{read_line, read_by, plug_of, plugged, joined_path, path_of, lone_path, name_of, once, hw_of, compat_of, reqs_of, reqs_from, values, each_is, is_attribute, is_need, rule_of, res_of, window_res_of, event_of}
 use Rattle.script_reader.specs.Script.{Meaning, nothing, means, bad, event_or_bad, is_comment, meaning_of, whole_line, last_line, Trace, gives, waits, ends, stops, onward, at_end, of_lines, trace}
 
 -- 64 identifiers of each kind at most
@@ -83,14 +84,14 @@ at_most most many read texts = by_test (nat_le (length texts) most) refl
 
 few_once : (otherwise : List (List ℕ)) → length otherwise ≤ 64 → (vs : List (List ℕ)) → Holds (λ ids. length ids ≤ 64) (once ids_of otherwise vs)
 few_once otherwise h [] = h
-few_once otherwise h (v ∷ []) = at_most 64 _ (id_in v) (parts 0x2C v)
+few_once otherwise h (v ∷ []) = at_most 64 (fault Cause.ManyIds v) (id_in v) (parts 0x2C v)
 few_once otherwise h (v ∷ second ∷ more) = tt
 
 lists_short : (needs : List (List ℕ)) → Holds AllShort (reqs_from [] needs)
 lists_short needs = by_test (nat_le (length needs) 8)
   where
-    by_test : (b : Bool) → Holds AllShort (cond b (each_of list_of needs) (Err _))
-    by_test true = each_holds (λ (list : AltList). length list ≤ 16) list_of (λ text. at_most 16 _ group_of (parts 0x3B text)) needs
+    by_test : (b : Bool) → Holds AllShort (cond b (each_of list_of needs) (Err (fault Cause.ManyNeeds (slice_index_or needs 8 []))))
+    by_test true = each_holds (λ (list : AltList). length list ≤ 16) list_of (λ text. at_most 16 (fault Cause.ManyGroups text) group_of (parts 0x3B text)) needs
     by_test false = tt
 
 said_short : (text : List ℕ) (r : Result Reqs BytesError) → ReadShort r → Holds AllShort (said text r)
@@ -99,58 +100,86 @@ said_short text (Err e) h = tt
 
 needs_short : (texts needs : List (List ℕ)) → Holds AllShort (reqs_from texts needs)
 needs_short [] needs = lists_short needs
-needs_short (text ∷ []) [] = any AllShort (ok_or (hex_bytes text) _) (λ bytes. said text (reqs_in bytes)) (λ bytes. said_short text (reqs_in bytes) (read_short bytes))
+needs_short (text ∷ []) [] = any AllShort (ok_or (hex_bytes text) (fault Cause.NotHex text)) (λ bytes. said text (reqs_in bytes)) (λ bytes. said_short text (reqs_in bytes) (read_short bytes))
 needs_short (text ∷ []) (need ∷ needs) = tt
 needs_short (text ∷ second ∷ more) needs = tt
 
 word_of : (word : List ℕ) → Holds (λ name. name ≢ []) (name_of word)
 word_of word = by_test (is_name word) refl
   where
-    by_test : (b : Bool) → is_name word ≡ b → Holds (λ name. name ≢ []) (ok_if b word _)
+    by_test : (b : Bool) → is_name word ≡ b → Holds (λ name. name ≢ []) (ok_if b word (fault Cause.NotName word))
     by_test true e = λ none. let h : is_name [] ≡ true = subst (λ (w : List ℕ). is_name w ≡ true) none e in cc
     by_test false e = tt
 
 -- Events --------------------------------------------------------------------------------
 
+-- of one part, of two, of three
+one : {A : Type 0} (o : Result A Fault) (f : A → Event) → ((x : A) → Fine (f x)) → Holds Fine (o >>= (λ x. Ok (f x)))
+one (Err e) f h = tt
+one (Ok x) f h = h x
+
+two : {A B : Type 0} (o : Result A Fault) (p : Result B Fault) (f : A → B → Event) → ((x : A) (y : B) → Fine (f x y)) → Holds Fine (o >>= (λ x. p >>= (λ y. Ok (f x y))))
+two (Err e) p f h = tt
+two (Ok x) p f h = one p (f x) (h x)
+
+three : {A B C : Type 0} (o : Result A Fault) (p : Result B Fault) (q : Result C Fault) (f : A → B → C → Event) → ((x : A) (y : B) (z : C) → Fine (f x y z))
+    → Holds Fine (o >>= (λ x. p >>= (λ y. q >>= (λ z. Ok (f x y z)))))
+three (Err e) p q f h = tt
+three (Ok x) p q f h = two p q (f x) (h x)
+
 fine_plugged : (parent device path : List ℕ) (attributes : List (List ℕ)) → Holds Fine (plugged parent device path attributes)
 fine_plugged parent device path attributes =
-    any Fine _ _ (λ are.
-    then_holds (λ ids. length ids ≤ 64) Fine _ _ (few_once (device ∷ []) (omega arith) (values (codes "hw=") attributes)) (λ hw few_hw.
-    then_holds (λ ids. length ids ≤ 64) Fine _ _ (few_once [] (omega arith) (values (codes "compat=") attributes)) (λ compat few_compat.
-    then_holds AllShort Fine _ _ (needs_short (values (codes "reqs=") attributes) (values (codes "need=") attributes)) (λ reqs short.
-    ((few_hw, few_compat), tt, short)))))
+    any Fine (each_is is_attribute Cause.NotAttribute attributes) (λ are. hw_of device attributes >>= (λ hw. compat_of attributes >>= (λ compat. reqs_of attributes >>= (λ reqs. Ok (events.Plug parent path hw compat reqs))))) (λ are.
+    then_holds (λ ids. length ids ≤ 64) Fine (hw_of device attributes) (λ hw. compat_of attributes >>= (λ compat. reqs_of attributes >>= (λ reqs. Ok (events.Plug parent path hw compat reqs))))
+    (few_once (device ∷ []) (omega arith) (values (codes "hw=") attributes)) (λ hw few_hw.
+    then_holds (λ ids. length ids ≤ 64) Fine (compat_of attributes) (λ compat. reqs_of attributes >>= (λ reqs. Ok (events.Plug parent path hw compat reqs)))
+    (few_once [] (omega arith) (values (codes "compat=") attributes)) (λ compat few_compat.
+    then_holds AllShort Fine (reqs_of attributes) (λ reqs. Ok (events.Plug parent path hw compat reqs))
+    (needs_short (values (codes "reqs=") attributes) (values (codes "need=") attributes)) (λ reqs short. ((few_hw, few_compat), tt, short)))))
 
 fine_plug : (keyword : List ℕ) (words : List (List ℕ)) → Holds Fine (plug_of keyword words)
 fine_plug keyword (parent ∷ device ∷ instance ∷ attributes) =
-    any Fine _ _ (λ p. any Fine _ _ (λ d. any Fine _ _ (λ i. any Fine _ _ (λ path. fine_plugged p d path attributes))))
+    any Fine (path_of parent) (λ p. id_of device >>= (λ d. id_of instance >>= (λ i. joined_path d i >>= (λ path. plugged p d path attributes)))) (λ p.
+    any Fine (id_of device) (λ d. id_of instance >>= (λ i. joined_path d i >>= (λ path. plugged p d path attributes))) (λ d.
+    any Fine (id_of instance) (λ i. joined_path d i >>= (λ path. plugged p d path attributes)) (λ i.
+    any Fine (joined_path d i) (λ path. plugged p d path attributes) (λ path. fine_plugged p d path attributes))))
 fine_plug keyword [] = tt
 fine_plug keyword (a ∷ []) = tt
 fine_plug keyword (a ∷ b ∷ []) = tt
 
+fine_change : (path : List ℕ) (needs : List (List ℕ)) → Holds Fine (each_is is_need Cause.NotNeed needs >>= (λ are. reqs_of needs >>= (λ reqs. Ok (events.Change path reqs))))
+fine_change path needs =
+    any Fine (each_is is_need Cause.NotNeed needs) (λ are. reqs_of needs >>= (λ reqs. Ok (events.Change path reqs))) (λ are.
+    then_holds AllShort Fine (reqs_of needs) (λ reqs. Ok (events.Change path reqs)) (needs_short (values (codes "reqs=") needs) (values (codes "need=") needs)) (λ reqs short. (tt, tt, short)))
+
 fine_by : (event : EventWord) (keyword : List ℕ) (words : List (List ℕ)) → Holds Fine (read_by event keyword words)
 fine_by keywords.Plug keyword words = fine_plug keyword words
-fine_by keywords.Pull keyword words = any Fine _ _ (λ path. (tt, tt, tt))
-fine_by keywords.Disable keyword words = any Fine _ _ (λ path. (tt, tt, tt))
-fine_by keywords.Enable keyword words = any Fine _ _ (λ path. (tt, tt, tt))
-fine_by keywords.Eject keyword words = any Fine _ _ (λ path. (tt, tt, tt))
-fine_by keywords.HandleOpen keyword words = any Fine _ _ (λ path. (tt, tt, tt))
-fine_by keywords.HandleClose keyword words = any Fine _ _ (λ path. (tt, tt, tt))
-fine_by keywords.Name keyword (name ∷ kind ∷ []) = then_holds (λ name. name ≢ []) Fine _ _ (word_of name) (λ name some. any Fine _ _ (λ kind. (tt, some, tt)))
-fine_by keywords.Teach keyword (name ∷ ask ∷ path ∷ answer ∷ uses) = any Fine _ _ (λ name. any Fine _ _ (λ rule. (tt, tt, tt)))
-fine_by keywords.Relate keyword (kind ∷ owner ∷ member ∷ []) = any Fine _ _ (λ kind. any Fine _ _ (λ owner. any Fine _ _ (λ member. (tt, tt, tt))))
-fine_by keywords.Reserve keyword (res ∷ []) = any Fine _ _ (λ res. (tt, tt, tt))
-fine_by keywords.Complete keyword (path ∷ minor ∷ ok ∷ []) = any Fine _ _ (λ path. any Fine _ _ (λ minor. any Fine _ _ (λ ok. (tt, tt, tt))))
-fine_by keywords.Window keyword (path ∷ res ∷ []) = any Fine _ _ (λ path. any Fine _ _ (λ res. (tt, tt, tt)))
+fine_by keywords.Pull keyword words = one (lone_path keyword words) (λ path. events.Pull path) (λ path. (tt, tt, tt))
+fine_by keywords.Disable keyword words = one (lone_path keyword words) (λ path. events.Disable path) (λ path. (tt, tt, tt))
+fine_by keywords.Enable keyword words = one (lone_path keyword words) (λ path. events.Enable path) (λ path. (tt, tt, tt))
+fine_by keywords.Eject keyword words = one (lone_path keyword words) (λ path. events.Eject path) (λ path. (tt, tt, tt))
+fine_by keywords.HandleOpen keyword words = one (lone_path keyword words) (λ path. events.OpenHandle path) (λ path. (tt, tt, tt))
+fine_by keywords.HandleClose keyword words = one (lone_path keyword words) (λ path. events.CloseHandle path) (λ path. (tt, tt, tt))
+fine_by keywords.Name keyword (name ∷ kind ∷ []) =
+    then_holds (λ name. name ≢ []) Fine (name_of name) (λ name. ok_or (driver_kind_of kind) (fault Cause.NotDriverKind kind) >>= (λ kind. Ok (events.Name name kind))) (word_of name)
+    (λ name some. one (ok_or (driver_kind_of kind) (fault Cause.NotDriverKind kind)) (λ kind. events.Name name kind) (λ kind. (tt, some, tt)))
+fine_by keywords.Teach keyword (name ∷ ask ∷ path ∷ answer ∷ uses) = two (name_of name) (rule_of ask path answer uses) (λ name rule. events.Teach name rule) (λ name rule. (tt, tt, tt))
+fine_by keywords.Relate keyword (kind ∷ owner ∷ member ∷ []) =
+    three (ok_or (rel_kind_of kind) (fault Cause.NotRelation kind)) (path_of owner) (path_of member) (λ kind owner member. events.Relate kind owner member) (λ kind owner member. (tt, tt, tt))
+fine_by keywords.Reserve keyword (res ∷ []) = one (res_of res) (λ res. events.Reserve res) (λ res. (tt, tt, tt))
+fine_by keywords.Complete keyword (path ∷ minor ∷ ok ∷ []) =
+    three (path_of path) (ok_or (minor_of minor) (fault Cause.NotRequest minor)) (ok_or (ok_of ok) (fault Cause.NotOk ok)) (λ path minor ok. events.Complete path minor ok) (λ path minor ok. (tt, tt, tt))
+fine_by keywords.Window keyword (path ∷ res ∷ []) = two (path_of path) (window_res_of res) (λ path res. events.Window path res) (λ path res. (tt, tt, tt))
 fine_by keywords.Change keyword (path ∷ needs) =
-    any Fine _ _ (λ path. any Fine _ _ (λ are.
-    then_holds AllShort Fine _ _ (needs_short (values (codes "reqs=") needs) (values (codes "need=") needs)) (λ reqs short. (tt, tt, short))))
-fine_by keywords.Watch keyword (client ∷ path ∷ agrees ∷ []) = any Fine _ _ (λ client. any Fine _ _ (λ path. any Fine _ _ (λ agrees. (tt, tt, tt))))
-fine_by keywords.Unwatch keyword (client ∷ path ∷ []) = any Fine _ _ (λ client. any Fine _ _ (λ path. (tt, tt, tt)))
+    any Fine (path_of path) (λ path. each_is is_need Cause.NotNeed needs >>= (λ are. reqs_of needs >>= (λ reqs. Ok (events.Change path reqs)))) (λ path. fine_change path needs)
+fine_by keywords.Watch keyword (client ∷ path ∷ agrees ∷ []) =
+    three (name_of client) (path_of path) (ok_or (agrees_of agrees) (fault Cause.NotAgreement agrees)) (λ client path agrees. events.Watch client path agrees) (λ client path agrees. (tt, tt, tt))
+fine_by keywords.Unwatch keyword (client ∷ path ∷ []) = two (name_of client) (path_of path) (λ client path. events.Unwatch client path) (λ client path. (tt, tt, tt))
 fine_by _ _ _ = tt
 
 fine_line : (words : List (List ℕ)) → Holds Fine (read_line words)
 fine_line [] = tt
-fine_line (keyword ∷ words) = any Fine _ _ (λ event. fine_by event keyword words)
+fine_line (keyword ∷ words) = any Fine (ok_or (keyword_of keyword) (fault Cause.NotKeyword keyword)) (λ event. read_by event keyword words) (λ event. fine_by event keyword words)
 
 -- Lines ---------------------------------------------------------------------------------
 
