@@ -30,6 +30,23 @@ fn text_fault<'a>(alloc: Global, text: &'a [u8]) -> Result<Option<LineFault<'a>>
     }
 }
 
+/// What is wrong with a line.
+fn line_fault<'a>(
+    alloc: Global,
+    line: &'a [u8],
+    ended: bool,
+) -> Result<Option<LineFault<'a>>, AllocError>
+    ensures { IfOk result (λ f. option_map seen f ≡ line_fault ended line.now) }
+{
+    if line.len() > LONGEST {
+        return Ok(Some(LineFault {
+            cause: Cause::LongLine,
+            word: line,
+        }));
+    }
+    text_fault(alloc, body_of(line, ended))
+}
+
 /// What is wrong with a line of a script, which is given without its LF; `ended` says that one stood behind it. There is a fault exactly
 /// where the reader of scripts takes the line for a bad one. Or want of memory. Cost: the length. This project's own.
 #[tactic(auto, using(crate::proofs::Exact::exact))]
@@ -41,11 +58,5 @@ pub fn fault_of<'a>(
     ensures cause { IfOk result (λ f. option_map seen f ≡ line_fault ended line.now) }
     ensures exact { IfOk result (λ f. is_some f ≡ is_bad (meaning ended line.now)) }
 {
-    if line.len() > LONGEST {
-        return Ok(Some(LineFault {
-            cause: Cause::LongLine,
-            word: line,
-        }));
-    }
-    text_fault(alloc, body_of(line, ended))
+    line_fault(alloc, line, ended)
 }
