@@ -11,4 +11,4 @@ few (events.Plug parent path hw compat reqs) h = h
 few _ h = tt
 
 pub few_ids : (finished : Bool) (passed : ℕ) (bytes : List ℕ) (number : ℕ) (event : Event) (rest : Trace) → trace finished passed bytes ≡ gives number event rest → HasFewIds event
-few_ids finished passed bytes number event rest is = few event (read.first_fine finished passed bytes number event rest is).0.0
+few_ids finished passed bytes number event rest is = few event (read.first_fine finished passed bytes number event rest is).0
