@@ -3,3 +3,4 @@ mod Events
 mod Steps
 mod Names
 mod Owns
+mod Tries

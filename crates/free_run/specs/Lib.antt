@@ -1,3 +1,4 @@
 pub mod FreeRuns
 pub mod Racks
 pub mod ToldRacks
+pub mod Lines

@@ -2,8 +2,10 @@
 #![tactic(auto)]
 
 mod driver;
+mod lines;
 mod racks;
 mod run;
 mod told;
 
+pub use lines::LineRun;
 pub use run::FreeRun;
