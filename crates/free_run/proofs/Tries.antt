@@ -2,7 +2,7 @@
 use Rattle.std.proofs.Common.{ℕ, ◌≡◌, ◌⊎◌, inl, inr, Bool, true, false, List, [], ◌∷◌, ◌++◌, Option, Some, None, refl, sym, ap, ◌∙◌, subst, slice_get, option_map}
 use Rattle.std.proofs.lemmas.Option.{slice_get-map}
 use Rattle.pnp_labels.specs.Texts.{Text, label_line}
-use Rattle.pnp_labels.specs.declared.event.Event.{Event}
+use Rattle.pnp_labels.specs.declared.event.Event as events
 use Rattle.pnp_labels.specs.declared.label.Label.{Label}
 use Rattle.pnp_labels.specs.declared.words.Answer.{Answer}
 use Rattle.pnp_labels.specs.declared.words.Answer.TheVariants.{Ok, Fail, Pend}
@@ -19,12 +19,14 @@ use Rattle.free_model.proofs.Racks.{faces_told, same_names, tells}
 use Rattle.free_model.proofs.SameQueries.{query_same}
 use Rattle.free_model.proofs.Ways.{KinLabel, one, asks, adds}
 use Rattle.free_run.specs.FreeRuns.{Free, MovesBy, settings}
-use Rattle.free_run.specs.Lines.{IfLine, IsLine, IsMade, IsTaken, Takes, TakesEvent, TakesStep, ToldBy, Tries, answer_label}
+use Rattle.free_run.specs.declared.lines.Ahead.{Ahead}
+use Rattle.free_run.specs.declared.lines.Ahead.TheVariants.{Nothing, Step, Event}
+use Rattle.free_run.specs.Lines.{IfLine, IsAhead, IsLine, IsMade, IsTaken, Takes, TakesEvent, TakesStep, ToldBy, Tries, answer_label, offered_by, seen}
 
 -- a test of equal bytes tells whether it is the line of a label
 pub line_so : (b : Bool) (line own : Text) → (b ≡ true → line ≡ own) → (line ≡ own → b ≡ true) → (label : Label) → own ≡ label_line label ++ 10 ∷ [] → IfLine b line label
-line_so true line own yes only label is = yes refl ∙ is
-line_so false line own yes only label is = λ h. let bad : false ≡ true = only (h ∙ sym is) in cc
+line_so true line own there back label is = there refl ∙ is
+line_so false line own there back label is = λ h. let bad : false ≡ true = back (h ∙ sym is) in cc
 
 -- no answer is told
 pub none_told : (f : Free) (q : Query) (line : Text) → IfLine false line (answer_label f q Ok) → IfLine false line (answer_label f q Fail) → IfLine false line (answer_label f q Pend) → ToldBy f q line None
@@ -72,17 +74,17 @@ module _ (f : Free) where
 
   module _ (q : Query) (is : next_query f.state ≡ Some q) (named : IsNamed f.state.core.rack q.driver) (line : Text) where
     -- the line tells no answer
-    pub told_none : ToldBy f q line None → (event : Option Event) → Tries false f event line f
+    pub told_none : ToldBy f q line None → (event : Option events.Event) → Tries false f event line f
     told_none not event = (refl, λ next h. of_takes next event h)
       where
-        of_takes : (next : Free) (event : Option Event) → Takes f event line next → ⊥
+        of_takes : (next : Free) (event : Option events.Event) → Takes f event line next → ⊥
         of_takes next event (inl (label, (answer, step), is_line, same)) = not answer (subst (λ (l : Label). IsLine line l) (asked_label q is named answer label next.state step) is_line)
-        of_takes next (Some event) (inr (quiet, h)) = asks_goes q is quiet
+        of_takes next (Some event) (inr (quiet, told, same)) = asks_goes q is quiet
         of_takes next None (inr h) = h
 
     -- it tells this one
     pub told_one : (answer : Answer) → ToldBy f q line (Some answer) → (label : Option Label) (new : Free) → MovesBy answer (settings f) f.state label new.state → new ≡ record f { state = new.state }
-        → (event : Option Event) → Tries true f event line new
+        → (event : Option events.Event) → Tries true f event line new
     told_one answer tells (Some label) new moves same event =
         inl (label, (answer, moves), subst (λ (l : Label). IsLine line l) (sym (asked_label q is named answer label new.state moves)) tells, same)
     told_one answer tells None new moves same event = absurd (asks_goes q is moves.0)
@@ -91,23 +93,23 @@ module _ (f : Free) where
 
   module _ (line : Text) where
     -- the line is that of the step
-    pub step_due : (label : Label) (run : Free) → IsMade f label run → IsLine line label → (event : Option Event) → Tries true f event line run
+    pub step_due : (label : Label) (run : Free) → IsMade f label run → IsLine line label → (event : Option events.Event) → Tries true f event line run
     step_due label run made is event = inl (label, (Ok, made.steps), is, made.same)
 
-    pub step_not_due : (label : Label) (run : Free) → IsMade f label run → (IsLine line label → ⊥) → (event : Option Event) → Tries false f event line f
+    pub step_not_due : (label : Label) (run : Free) → IsMade f label run → (IsLine line label → ⊥) → (event : Option events.Event) → Tries false f event line f
     step_not_due label run made not event = (refl, λ next h. of_takes next event h)
       where
-        of_takes : (next : Free) (event : Option Event) → Takes f event line next → ⊥
+        of_takes : (next : Free) (event : Option events.Event) → Takes f event line next → ⊥
         of_takes next event (inl (own, (answer, step), is_line, same)) =
             not (subst (λ (l : Label). IsLine line l) (silent_label made.silent Ok answer label own run.state next.state made.steps step) is_line)
-        of_takes next (Some event) (inr (quiet, h)) = no_step (settings f) f.state label run.state quiet (Ok, made.steps)
+        of_takes next (Some event) (inr (quiet, told, same)) = no_step (settings f) f.state label run.state quiet (Ok, made.steps)
         of_takes next None (inr h) = h
 
     -- it is that of the event
-    pub event_due : (event : Event) (label : Label) (run : Free) → IsTaken f event label run → IsLine line label → Tries true f (Some event) line run
+    pub event_due : (event : events.Event) (label : Label) (run : Free) → IsTaken f event label run → IsLine line label → Tries true f (Some event) line run
     event_due event label run taken is = inr (taken.quiet, subst (λ (l : Label). IsLine line l) taken.happened.0 is, taken.happened.1)
 
-    pub event_not_due : (event : Event) (label : Label) (run : Free) → IsTaken f event label run → (IsLine line label → ⊥) → Tries false f (Some event) line f
+    pub event_not_due : (event : events.Event) (label : Label) (run : Free) → IsTaken f event label run → (IsLine line label → ⊥) → Tries false f (Some event) line f
     event_not_due event label run taken not = (refl, of_takes)
       where
         of_takes : (next : Free) → Takes f (Some event) line next → ⊥
@@ -121,3 +123,22 @@ module _ (f : Free) where
         of_takes : (next : Free) → Takes f None line next → ⊥
         of_takes next (inl (own, step, is_line, same)) = no_step (settings f) f.state own next.state quiet step
         of_takes next (inr h) = h
+
+-- The run itself -------------------------------------------------------------------------------
+
+abbrev pub is_step : Ahead → Bool
+is_step Nothing = false
+is_step (Step label before) = true
+is_step (Event label event before) = false
+
+-- before a step that was made ahead the state was not quiet
+pub busy : (run : Free) (ahead : Ahead) → is_step ahead ≡ true → IsAhead run ahead → IsQuiet (settings (seen run ahead)) (seen run ahead).state → ⊥
+busy run Nothing e h quiet = cc
+busy run (Step label before) e h quiet = no_step (settings before.value) before.value.state label run.state quiet (Ok, h.steps)
+busy run (Event label event before) e h quiet = cc
+
+-- at a quiet state at which no event was looked at nothing is ahead
+pub none_ahead : (run : Free) (ahead : Ahead) → IsAhead run ahead → IsQuiet (settings (seen run ahead)) (seen run ahead).state → offered_by ahead ≡ None → seen run ahead ≡ run
+none_ahead run Nothing h quiet none = refl
+none_ahead run (Step label before) h quiet none = absurd (no_step (settings before.value) before.value.state label run.state quiet (Ok, h.steps))
+none_ahead run (Event label event before) h quiet none = absurd (cc)

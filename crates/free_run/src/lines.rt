@@ -110,7 +110,8 @@ fn answer_label(
 ) -> Result<Label, WantOfMemory>
     ensures { IfOk result (λ label. label ≡ answer_label run.now (query_of query.now) answer) }
 {
-    let path = query.node.path.text(alloc)?;
+    let node = query.node;
+    let path = node.path.text(alloc)?;
     let driver = driver_text(alloc, run, query.driver)?;
     match query.what {
         AskWhat::Add => {
