@@ -1,6 +1,7 @@
 -- What the line of a step tells.
-use Rattle.std.proofs.Common.{ℕ, ◌≡◌, ◌⊎◌, inl, inr, Bool, true, false, List, [], ◌∷◌, ◌++◌, Option, Some, None, refl, sym, ap, ◌∙◌, subst, slice_get, option_map}
+use Rattle.std.proofs.Common.{ℕ, Result, Ok as Good, Err, IfOk, IfSome, ◌≡◌, ◌⊎◌, inl, inr, Bool, true, false, List, [], ◌∷◌, ◌++◌, Option, Some, None, refl, sym, ap, ◌∙◌, subst, slice_get, option_map}
 use Rattle.std.proofs.lemmas.Option.{slice_get-map}
+use Rattle.std.specs.declared.alloc.AllocError.{AllocError}
 use Rattle.pnp_labels.specs.Texts.{Text, label_line}
 use Rattle.pnp_labels.specs.declared.event.Event as events
 use Rattle.pnp_labels.specs.declared.label.Label.{Label}
@@ -21,7 +22,7 @@ use Rattle.free_model.proofs.Ways.{KinLabel, one, asks, adds}
 use Rattle.free_run.specs.FreeRuns.{Free, MovesBy, settings}
 use Rattle.free_run.specs.declared.lines.Ahead.{Ahead}
 use Rattle.free_run.specs.declared.lines.Ahead.TheVariants.{Nothing, Step, Event}
-use Rattle.free_run.specs.Lines.{IfLine, IsAhead, IsLine, IsMade, IsTaken, Takes, TakesEvent, TakesStep, ToldBy, Tries, answer_label, offered_by, seen}
+use Rattle.free_run.specs.Lines.{GoesAhead, IfDue, IfLine, IsAhead, IsLine, IsMade, IsTaken, Takes, TakesEvent, TakesStep, ToldBy, Tries, after_due, answer_label, offered_by, seen}
 
 -- a test of equal bytes tells whether it is the line of a label
 pub line_so : (b : Bool) (line own : Text) → (b ≡ true → line ≡ own) → (line ≡ own → b ≡ true) → (label : Label) → own ≡ label_line label ++ 10 ∷ [] → IfLine b line label
@@ -142,3 +143,48 @@ pub none_ahead : (run : Free) (ahead : Ahead) → IsAhead run ahead → IsQuiet 
 none_ahead run Nothing h quiet none = refl
 none_ahead run (Step label before) h quiet none = absurd (no_step (settings before.value) before.value.state label run.state quiet (Ok, h.steps))
 none_ahead run (Event label event before) h quiet none = absurd (cc)
+
+-- A try of a run -------------------------------------------------------------------------------
+
+-- nothing is ahead at a quiet state without an event alone, and an event that is ahead is given again
+abbrev pub Ready : Free → Ahead → Option events.Event → Type 0
+Ready run Nothing event = IsQuiet (settings run) run.state × (event ≡ None)
+Ready run (Step label before) event = Unit {0}
+Ready run (Event label own before) event = event ≡ Some own.value
+
+tried : (run : Free) (ahead : Ahead) (event : Option events.Event) (line : Text) (due : Bool) → IsAhead run ahead → Ready run ahead event → IfDue due line ahead → Tries due (seen run ahead) event line (seen run (after_due due ahead))
+tried run Nothing event line true h ready is = absurd (cc)
+tried run Nothing event line false h (quiet, none) is = subst (λ (e : Option events.Event). Tries false run e line run) (sym none) (nothing_due run line quiet)
+tried run (Step label before) event line true h ready is = step_due before.value line label run h is event
+tried run (Step label before) event line false h ready is = step_not_due before.value line label run h is event
+tried run (Event label own before) event line true h ready is = subst (λ (e : Option events.Event). Tries true before.value e line run) (sym ready) (event_due before.value line own.value label run h is)
+tried run (Event label own before) event line false h ready is = subst (λ (e : Option events.Event). Tries false before.value e line before.value) (sym ready) (event_not_due before.value line own.value label run h is)
+
+pub all_tried : (old run : Free) (ahead after : Ahead) (event : Option events.Event) (line : Text) (result : Result Bool AllocError) → IsAhead run ahead → Ready run ahead event → seen run ahead ≡ old
+    → IfOk result (λ due. IfDue due line ahead) → IfOk result (λ due. after ≡ after_due due ahead) → IfOk result (λ taken. Tries taken old event line (seen run after))
+all_tried old run ahead after event line (Good due) h ready was is then =
+    subst (λ (f : Free). Tries due f event line (seen run after)) was
+    (subst (λ (a : Ahead). Tries due (seen run ahead) event line (seen run a)) (sym then) (tried run ahead event line due h ready is))
+all_tried old run ahead after event line (Err refused) h ready was is then = tt
+
+-- what was done just now
+pub just_ahead : (old : Free) (event : Option events.Event) (run : Free) (ahead : Ahead) → GoesAhead old event run ahead → IsAhead run ahead
+just_ahead old event run Nothing h = tt
+just_ahead old event run (Step label before) (was, made) = subst (λ (f : Free). IsMade f label run) (sym was) made
+just_ahead old event run (Event label own before) (was, same, taken) = subst (λ (f : Free). IsTaken f own.value label run) (sym was) taken
+
+pub just_ready : (old : Free) (event : Option events.Event) (run : Free) (ahead : Ahead) → GoesAhead old event run ahead → Ready run ahead event
+just_ready old event run Nothing (quiet, none, same) = (subst (λ (f : Free). IsQuiet (settings f) f.state) (sym same) quiet, none)
+just_ready old event run (Step label before) h = tt
+just_ready old event run (Event label own before) (was, same, taken) = same
+
+pub just_seen : (old : Free) (event : Option events.Event) (run : Free) (ahead : Ahead) → GoesAhead old event run ahead → seen run ahead ≡ old
+just_seen old event run Nothing (quiet, none, same) = same
+just_seen old event run (Step label before) (was, made) = was
+just_seen old event run (Event label own before) (was, same, taken) = was
+
+-- what was done before
+pub still_ready : (run : Free) (ahead : Ahead) (event : Option events.Event) → (ahead ≡ Nothing → ⊥) → IfSome (offered_by ahead) (λ own. event ≡ Some own) → Ready run ahead event
+still_ready run Nothing event some again = absurd (some refl)
+still_ready run (Step label before) event some again = tt
+still_ready run (Event label own before) event some again = again

@@ -279,6 +279,7 @@ impl LineRun {
                 return try_ask(alloc, &mut self.run, line);
             }
             self.ahead = go_ahead(&mut self.run, event)?;
+            return take_ahead(alloc, &mut self.ahead, line);
         }
         take_ahead(alloc, &mut self.ahead, line)
     }
