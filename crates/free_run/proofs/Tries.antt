@@ -1,6 +1,7 @@
 -- What the line of a step tells.
-use Rattle.std.proofs.Common.{ℕ, Result, Ok as Good, Err, IfOk, IfSome, ◌≡◌, ◌⊎◌, inl, inr, Bool, true, false, List, [], ◌∷◌, ◌++◌, Option, Some, None, refl, sym, ap, ◌∙◌, subst, slice_get, option_map}
+use Rattle.std.proofs.Common.{Result, Ok as Good, Err, IfOk, IfSome, ◌≡◌, inl, inr, Bool, true, false, List, [], ◌∷◌, ◌++◌, Option, Some, None, refl, sym, ap, ◌∙◌, subst, slice_get, option_map}
 use Rattle.std.proofs.lemmas.Option.{slice_get-map}
+use Rattle.std.specs.Prelude.{OnErr}
 use Rattle.std.specs.declared.alloc.AllocError.{AllocError}
 use Rattle.pnp_labels.specs.Texts.{Text, label_line}
 use Rattle.pnp_labels.specs.declared.event.Event as events
@@ -9,11 +10,11 @@ use Rattle.pnp_labels.specs.declared.words.Answer.{Answer}
 use Rattle.pnp_labels.specs.declared.words.Answer.TheVariants.{Ok, Fail, Pend}
 use Rattle.pnp_model.specs.Books.{book_of, name_of, name_or_none, rack_reply, reply}
 use Rattle.pnp_model.specs.Machine.{IsQuiet}
-use Rattle.pnp_model.specs.Records.{Driver, Settings, State}
+use Rattle.pnp_model.specs.Records.{Driver, State}
 use Rattle.pnp_laws.specs.Stacks.{IsNamed}
 use Rattle.free_model.specs.Asking.{AsksSo, answered, is_ask}
 use Rattle.free_model.specs.Asks.{Query, next_query}
-use Rattle.free_model.specs.Frees.{FreeSteps, StepsBy, told, telling, with_rack}
+use Rattle.free_model.specs.Frees.{StepsBy, told, telling, with_rack}
 use Rattle.free_model.proofs.AskSteps.{each_step_asks, quiet_asks_nobody}
 use Rattle.free_model.proofs.OneVerdict.{kin_steps, no_step}
 use Rattle.free_model.proofs.Racks.{faces_told, same_names, tells}
@@ -22,7 +23,7 @@ use Rattle.free_model.proofs.Ways.{KinLabel, one, asks, adds}
 use Rattle.free_run.specs.FreeRuns.{Free, MovesBy, settings}
 use Rattle.free_run.specs.declared.lines.Ahead.{Ahead}
 use Rattle.free_run.specs.declared.lines.Ahead.TheVariants.{Nothing, Step, Event}
-use Rattle.free_run.specs.Lines.{GoesAhead, IfDue, IfLine, IsAhead, IsLine, IsMade, IsTaken, Takes, TakesEvent, TakesStep, ToldBy, Tries, after_due, answer_label, offered_by, seen}
+use Rattle.free_run.specs.Lines.{GoesAhead, IfDue, IfLine, IsAhead, IsLine, IsMade, IsTaken, Takes, ToldBy, Tries, after_due, answer_label, offered_by, seen}
 
 -- a test of equal bytes tells whether it is the line of a label
 pub line_so : (b : Bool) (line own : Text) → (b ≡ true → line ≡ own) → (line ≡ own → b ≡ true) → (label : Label) → own ≡ label_line label ++ 10 ∷ [] → IfLine b line label
@@ -188,3 +189,8 @@ pub still_ready : (run : Free) (ahead : Ahead) (event : Option events.Event) →
 still_ready run Nothing event some again = absurd (some refl)
 still_ready run (Step label before) event some again = tt
 still_ready run (Event label own before) event some again = again
+
+pub still_ahead : (run : Free) (ahead after : Ahead) (result : Result Bool AllocError) → IsAhead run ahead → IfOk result (λ due. after ≡ after_due due ahead) → OnErr result (after ≡ ahead) → IsAhead run after
+still_ahead run ahead after (Good true) h then err = subst (IsAhead run) (sym then) tt
+still_ahead run ahead after (Good false) h then err = subst (IsAhead run) (sym then) h
+still_ahead run ahead after (Err refused) h then err = subst (IsAhead run) (sym err) h

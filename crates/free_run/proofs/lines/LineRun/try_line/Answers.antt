@@ -1,7 +1,13 @@
 use Rattle.std.proofs.Common.{Some, IfSome, ap, sym, subst, ◌≡◌, ◌∙◌}
 use Rattle.free_run.specs.Lines.{Lines, seen}
-use Rattle.free_run.proofs.Tries.{all_tried, just_ahead, just_ready, just_seen, still_ready}
+use Rattle.free_run.proofs.Tries.{all_tried, just_ahead, just_ready, just_seen, still_ahead, still_ready}
 use Rattle.free_run.proofs.lines.LineRun.try_line.Goals as goal
+
+pub invariant_of-self-in-Nothing : goal.invariant_of-self-in-Nothing
+invariant_of-self-in-Nothing c =
+    let run = c.go_ahead.new.run in
+    let ahead = c.in_ok-self-inside.field-0 in
+    still_ahead run ahead c.take_ahead.new.ahead c.take_ahead.result (just_ahead c.self.inside.run c.args.event run ahead c.in_ok-self-inside.ensures.ahead) c.take_ahead.ensures.after c.take_ahead.ensures.err
 
 pub returns-in-Nothing-clause-tried : goal.returns-in-Nothing-clause-tried
 returns-in-Nothing-clause-tried c =
@@ -17,5 +23,5 @@ pub returns-clause-tried : goal.returns-clause-tried
 returns-clause-tried c =
     let s = c.self.inside in
     let again = subst (λ (l : Lines). IfSome l.offered (λ own. c.args.event ≡ Some own)) (sym c.self.view_is) c.requires.same in
-    all_tried c.args.self.now.run s.run s.ahead c.take_ahead-in_default.new.ahead c.args.event c.args.line.now c.take_ahead-in_default.result c.self.invariant
-    (still_ready s.run s.ahead c.args.event c.in_default.not-Nothing again) (ap (λ (l : Lines). l.run) c.self.view_is) c.take_ahead-in_default.ensures.due c.take_ahead-in_default.ensures.after
+    all_tried c.args.self.now.run s.run s.ahead c.take_ahead-2.new.ahead c.args.event c.args.line.now c.take_ahead-2.result c.self.invariant
+    (still_ready s.run s.ahead c.args.event c.in_default.not-Nothing again) (ap (λ (l : Lines). l.run) c.self.view_is) c.take_ahead-2.ensures.due c.take_ahead-2.ensures.after
