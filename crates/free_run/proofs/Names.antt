@@ -1,5 +1,5 @@
 -- Names that are given in a rack one after another, some of them late.
-use Rattle.std.proofs.Common.{◌≡◌, ◌<◌, ◌+◌, ◌-◌, ℕ, Bool, true, false, List, [], ◌∷◌, ◌++◌, drop, length, Option, Some, None, cond, refl, sym, ap, ◌∙◌, slice_get, get_or, arith}
+use Rattle.std.proofs.Common.{◌≡◌, ◌<◌, Bool, true, false, List, [], ◌∷◌, ◌++◌, drop, length, Option, Some, None, cond, refl, sym, ap, ◌∙◌, slice_get, get_or, arith}
 use Rattle.std.specs.Prelude.{find}
 use Rattle.std.proofs.lemmas.Slice.Eq.{bytes_eq-Decides}
 use Rattle.device_ids.specs.Folding.{folded, same}
@@ -10,7 +10,7 @@ use Rattle.pnp_model.specs.Keyed.{changed_first}
 use Rattle.pnp_model.specs.Records.{Driver}
 use Rattle.free_run.specs.declared.racks.Naming.{Naming}
 use Rattle.free_run.specs.declared.told.ToldRacks.{ToldRacks}
-use Rattle.free_run.specs.Racks.{named_by, named, named_all, list_of}
+use Rattle.free_run.specs.Racks.{named_by, named, named_all}
 use Rattle.free_run.specs.ToldRacks.{AreAlike, AreTold, AreUp}
 
 -- A name that is given twice ----------------------------------------------------------------

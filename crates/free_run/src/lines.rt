@@ -110,7 +110,8 @@ fn answer_label(
 ) -> Result<Label, WantOfMemory>
     ensures { IfOk result (λ label. label ≡ answer_label run.now (query_of query.now) answer) }
 {
-    let path = query.node.path.text(alloc)?;
+    let node = query.node;
+    let path = node.path.text(alloc)?;
     let driver = driver_text(alloc, run, query.driver)?;
     match query.what {
         AskWhat::Add => {
@@ -278,6 +279,7 @@ impl LineRun {
                 return try_ask(alloc, &mut self.run, line);
             }
             self.ahead = go_ahead(&mut self.run, event)?;
+            return take_ahead(alloc, &mut self.ahead, line);
         }
         take_ahead(alloc, &mut self.ahead, line)
     }

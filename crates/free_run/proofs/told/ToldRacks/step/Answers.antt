@@ -1,4 +1,4 @@
-use Rattle.free_run.proofs.Names.{told_alike, told_from, up_from}
+use Rattle.free_run.proofs.Names.{up_from}
 use Rattle.free_run.proofs.told.ToldRacks.step.Goals as goal
 
 pub step_up-requires : goal.step_up-requires
