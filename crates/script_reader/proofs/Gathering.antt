@@ -1,5 +1,5 @@
 -- What the texts so far are, and those that are left.
-use Rattle.std.proofs.Common.{◌≡◌, ℕ, ◌+◌, ◌<◌, ◌≤◌, List, [], ◌∷◌, ◌++◌, length, get_or, drop, map, Result, Ok, Err, refl, sym, ◌∙◌, ap, arith, suc, add-one, append_assoc, append-nil, ◌==◌, Bor, cond}
+use Rattle.std.proofs.Common.{◌≡◌, ◌≢◌, ℕ, ◌+◌, ◌<◌, ◌≤◌, Bool, true, false, nat_le, List, [], ◌∷◌, ◌++◌, length, get_or, drop, map, Result, Ok, Err, refl, sym, ◌∙◌, ap, arith, suc, add-one, append_assoc, append-nil, ◌==◌, Bor, cond}
 use Rattle.std.proofs.Math.ListN.{get_or-map}
 use Rattle.std.proofs.Math.Seq.{drop-cons}
 use Rattle.std.proofs.lemmas.Bool.{le-leb, lt-leb}
@@ -16,13 +16,14 @@ onto xs (Ok ys) = Ok (xs ++ ys)
 
 pub record Gathered {A : Type 0} (read : List ℕ → Result A Fault) (texts : List (List ℕ)) (i : ℕ) (xs : List A) : Type 0 where
   pub is : each_of read texts ≡ onto xs (each_of read (drop i texts))
+  pub count : length xs ≡ i
 
 same : {A : Type 0} (o : Result (List A) Fault) → o ≡ onto [] o
 same (Err f) = refl
 same (Ok xs) = refl
 
 pub gathered_none : {A : Type 0} (read : List ℕ → Result A Fault) (texts : List (List ℕ)) → Gathered read texts 0 []
-gathered_none read texts = record { is = same (each_of read texts) }
+gathered_none read texts = record { is = same (each_of read texts); count = refl }
 
 onto_one : {A : Type 0} (xs : List A) (x : A) (o : Result (List A) Fault) → onto xs (o >>= λ ys. Ok (x ∷ ys)) ≡ onto (xs ++ x ∷ []) o
 onto_one xs x (Err f) = refl
@@ -79,6 +80,7 @@ next_part read items i xs ys x less is one so = record {
       ∙ onto_one xs x (each_of read (drop (suc i) (now_of items)))
       ∙ ap (λ n. onto (xs ++ x ∷ []) (each_of read (drop n (now_of items)))) (sym (add-one i))
       ∙ ap (λ zs. onto zs (each_of read (drop (i + 1) (now_of items)))) (sym one);
+  count = omega (arith, ap length one, so.count);
 }
 
 pub all_parts : {A : Type 0} (most : ℕ) (many : Fault) (read : List ℕ → Result A Fault) (items : List (Bor (List ℕ))) (texts : List (List ℕ)) (i : ℕ) (xs : List A)
@@ -88,3 +90,30 @@ all_parts most many read items texts i xs whole few long so =
     ap (all_of most many read) (sym whole) ∙ few_enough most many read (now_of items) (omega (arith, length_now items))
     ∙ so.is ∙ ap (λ t. onto xs (each_of read t)) (drop_all i (now_of items) (omega (arith, length_now items)))
     ∙ ap (λ ys. Ok ys) (append-nil xs)
+
+-- Room for what is read, which is not empty ----------------------------------------------------
+
+pub has_room : {A : Type 0} (most : ℕ) (read : List ℕ → Result A Fault) (items : List (Bor (List ℕ))) (i : ℕ) (xs : List A)
+    → length items ≤ most → i < length items → Gathered read (now_of items) i xs → length xs < most
+has_room most read items i xs few less so = omega (arith, so.count)
+
+one_read : {A : Type 0} (o : Result A Fault) (p : Result (List A) Fault) → (o >>= λ x. p >>= λ xs. Ok (x ∷ xs)) ≡ Ok [] → ⊥
+one_read (Err f) p h = cc
+one_read (Ok x) (Err f) h = cc
+one_read (Ok x) (Ok xs) h = cc
+
+none_read : {A : Type 0} (read : List ℕ → Result A Fault) (texts : List (List ℕ)) → each_of read texts ≡ Ok [] → length texts ≡ 0
+none_read read [] is = refl
+none_read read (text ∷ texts) is = absurd (one_read (read text) (each_of read texts) is)
+
+some_of : {A : Type 0} (most : ℕ) (many : Fault) (read : List ℕ → Result A Fault) (texts : List (List ℕ)) → 0 < length texts
+    → all_of most many read texts ≡ Ok [] → ⊥
+some_of most many read texts some is = by_test (nat_le (length texts) most) is
+  where
+    by_test : (b : Bool) → cond b (each_of read texts) (Err many) ≡ Ok [] → ⊥
+    by_test true h = let empty = none_read read texts h in omega arith
+    by_test false h = cc
+
+pub some_read : {A : Type 0} (most : ℕ) (many : Fault) (read : List ℕ → Result A Fault) (at : ℕ) (text : List ℕ) (xs : List A)
+    → all_of most many read (parts at text) ≡ Ok xs → xs ≢ []
+some_read most many read at text xs is none = some_of most many read (parts at text) (some_parts at text) (is ∙ ap (λ ys. Ok ys) none)

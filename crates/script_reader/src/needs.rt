@@ -8,6 +8,7 @@ ghost use Rattle.script_reader.specs.Lines.{value_at, values, is_need, is_attrib
 use crate::bytes::reqs_by_bytes;
 use crate::cause::Cause;
 use crate::fault::{LineError, fault};
+use crate::pushes::push_list;
 use crate::wants::list_of;
 use resource_reqs::Reqs;
 use std::alloc::{AllocError, Global};
@@ -98,7 +99,7 @@ fn lists_of<'a>(alloc: Global, values: &[&'a [u8]]) -> Result<Reqs, LineError<'a
     }
     let mut reqs = Reqs::new(alloc);
     for value in values {
-        reqs.push(list_of(alloc, value)?)?;
+        push_list(&mut reqs, list_of(alloc, value)?)?;
     }
     Ok(reqs)
 }

@@ -7,6 +7,7 @@ use crate::cause::Cause;
 use crate::causes::{range_cause, size_cause, tail_cause};
 use crate::fault::{LineError, fault};
 use crate::numbers::{number_of, range_in};
+use crate::pushes::{push_group, push_want};
 use crate::tables::kind_of;
 use device_ids::{DeviceId, IdError, IdList, cut, split_once};
 use resource_reqs::{AltList, Group, Kind, Want};
@@ -172,7 +173,7 @@ fn group_of<'a>(alloc: Global, text: &'a [u8]) -> Result<Group, LineError<'a>>
     }
     let mut group = Group::new(alloc);
     for part in &parts {
-        group.push(want_of(part)?)?;
+        push_want(&mut group, want_of(part)?)?;
     }
     Ok(group)
 }
@@ -187,7 +188,7 @@ pub fn list_of<'a>(alloc: Global, text: &'a [u8]) -> Result<AltList, LineError<'
     }
     let mut list = AltList::new(alloc);
     for part in &parts {
-        list.push(group_of(alloc, part)?)?;
+        push_group(&mut list, group_of(alloc, part)?)?;
     }
     Ok(list)
 }
