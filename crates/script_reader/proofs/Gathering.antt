@@ -1,5 +1,5 @@
 -- What the texts so far are, and those that are left.
-use Rattle.std.proofs.Common.{◌≡◌, ◌≢◌, ℕ, ◌+◌, ◌<◌, ◌≤◌, Bool, true, false, nat_le, List, [], ◌∷◌, ◌++◌, length, get_or, drop, map, Result, Ok, Err, refl, sym, ◌∙◌, ap, arith, suc, add-one, append_assoc, append-nil, ◌==◌, Bor, cond}
+use Rattle.std.proofs.Common.{◌≡◌, ◌≢◌, ℕ, ◌+◌, ◌<◌, ◌≤◌, Bool, true, false, nat_le, List, [], ◌∷◌, ◌++◌, length, get_or, drop, map, Result, Ok, Err, refl, sym, ◌∙◌, ap, arith, suc, add-one, append_assoc, append-nil, length-append, ◌==◌, Bor, cond}
 use Rattle.std.proofs.Math.ListN.{get_or-map}
 use Rattle.std.proofs.Math.Seq.{drop-cons}
 use Rattle.std.proofs.lemmas.Bool.{le-leb, lt-leb}
@@ -80,7 +80,7 @@ next_part read items i xs ys x less is one so = record {
       ∙ onto_one xs x (each_of read (drop (suc i) (now_of items)))
       ∙ ap (λ n. onto (xs ++ x ∷ []) (each_of read (drop n (now_of items)))) (sym (add-one i))
       ∙ ap (λ zs. onto zs (each_of read (drop (i + 1) (now_of items)))) (sym one);
-  count = omega (arith, ap length one, so.count);
+  count = ap length one ∙ length-append xs (x ∷ []) ∙ ap (λ n. n + 1) so.count;
 }
 
 pub all_parts : {A : Type 0} (most : ℕ) (many : Fault) (read : List ℕ → Result A Fault) (items : List (Bor (List ℕ))) (texts : List (List ℕ)) (i : ℕ) (xs : List A)

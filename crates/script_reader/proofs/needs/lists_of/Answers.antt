@@ -1,9 +1,9 @@
-use Rattle.std.proofs.Common.{rules, refl, arith}
+use Rattle.std.proofs.Common.{rules, refl, arith, get_or}
 use Rattle.script_reader.specs.Faults.{fault}
 use Rattle.script_reader.specs.Wants.{group_of, list_of}
 use Rattle.script_reader.specs.declared.cause.Cause.{Cause}
 use Rattle.script_reader.proofs.Errors.{pass_gives}
-use Rattle.script_reader.proofs.Gathering.{bad_part, has_room, some_read, next_part}
+use Rattle.script_reader.proofs.Gathering.{no_item, bad_part, has_room, some_read, next_part}
 use Rattle.script_reader.proofs.needs.lists_of.Goals as goal
 
 pub returns-in_err-list_of : goal.returns-in_err-list_of
@@ -17,7 +17,8 @@ push_list-requires-clause-room c =
 
 pub push_list-requires-clause-some : goal.push_list-requires-clause-some
 push_list-requires-clause-some c =
-    some_read 16 (fault Cause.ManyGroups _) group_of 0x3B _ c.in_ok-list_of.field-0 c.in_ok-list_of.ensures
+    let text = (get_or c.args.values.now c.loop-value.value-index no_item).now in
+    some_read 16 (fault Cause.ManyGroups text) group_of 0x3B text c.in_ok-list_of.field-0 c.in_ok-list_of.ensures
 
 pub loop-value-preserved : goal.loop-value-preserved
 loop-value-preserved c =
