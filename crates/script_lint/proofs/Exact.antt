@@ -8,7 +8,7 @@ use Rattle.script_reader.specs.declared.cause.Cause.{Cause}
 use Rattle.script_reader.specs.declared.fault.LineFault.{LineFault}
 use Rattle.script_reader.specs.Faults.{Fault, fault, seen}
 use Rattle.script_reader.specs.Lines.{read_line, event_of}
-use Rattle.script_reader.specs.Script.{Meaning, nothing, means, bad, event_or_bad, is_comment, meaning_of}
+use Rattle.script_reader.specs.Script.{Meaning, nothing, bad, event_or_bad, is_comment, meaning_of}
 use Rattle.script_reader.specs.Words.{words_of}
 use Rattle.script_lint.specs.Script.{fault_in, words_fault, text_fault, line_fault, meaning, is_bad}
 
