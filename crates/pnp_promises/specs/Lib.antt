@@ -9,3 +9,7 @@ pub mod Hears
 pub mod World
 pub mod Later
 pub mod FinishOrder
+pub mod Searches
+pub mod TreeOrder
+pub mod Written
+pub mod StopOrder

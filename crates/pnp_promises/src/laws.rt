@@ -9,8 +9,12 @@ ghost use Rattle.pnp_promises.specs.Keeps.{KeepsHoldingsLaw, ScriptHandlesLaw, T
 ghost use Rattle.pnp_promises.specs.Later.{LaterLaw};
 ghost use Rattle.pnp_promises.specs.Lines.{MeaningLaw};
 ghost use Rattle.pnp_promises.specs.Refusals.{CauseLaw, RefusedLaw};
+ghost use Rattle.pnp_promises.specs.Searches.{BudgetLaw};
+ghost use Rattle.pnp_promises.specs.StopOrder.{StoppedLaw};
+ghost use Rattle.pnp_promises.specs.TreeOrder.{TreeStandsLaw};
 ghost use Rattle.pnp_promises.specs.Words.{DependsLaw, PathLaw};
 ghost use Rattle.pnp_promises.specs.World.{WorldLaw};
+ghost use Rattle.pnp_promises.specs.Written.{WrittenLaw};
 
 /// A refused event changes nothing.
 pub fn refused_changes_nothing()
@@ -108,4 +112,27 @@ pub fn later_is_no_earlier()
 /// In a finish the device that is taken is ready, and no ready device has a greater serial.
 pub fn finished_from_the_greatest()
     ensures { FinishOrderLaw }
+{}
+
+/// A search keeps its budget: where `assign`, `fits` or `nofit` is printed, at most so many prefixes as the budget says were to be
+/// tried for what was sought; where `spent` is printed, more.
+pub fn searches_keep_the_budget()
+    ensures { BudgetLaw }
+{}
+
+/// Under `tree` each line stands below that of its parent, one level deeper, which is the last line before it that stands less deep; and
+/// the lines of the children of one device stand in order of serial.
+pub fn tree_stands()
+    ensures { TreeStandsLaw }
+{}
+
+/// Ports and memory are written in hexadecimal, interrupts, DMA channels and bus numbers in decimal: the kind, the first number, the
+/// last number, and whether they are shared.
+pub fn resources_are_written()
+    ensures { WrittenLaw }
+{}
+
+/// Devices are stopped from the greatest serial down, so a child before its parent.
+pub fn stopped_from_the_greatest()
+    ensures { StoppedLaw }
 {}
