@@ -8,17 +8,20 @@ use Rattle.pnp_labels.specs.declared.label.Label.{Label}
 use Rattle.pnp_labels.specs.declared.label.OpKind.{OpKind}
 use Rattle.pnp_labels.specs.declared.words.Minor.{Minor}
 use Rattle.pnp_model.specs.Events.{answer_of, completed, happens}
+use Rattle.pnp_model.specs.Cores.{serials_of}
 use Rattle.pnp_model.specs.Frames.{rest}
-use Rattle.pnp_model.specs.Jobs.{Beside, JobMove, each_gets}
+use Rattle.pnp_model.specs.Jobs.{Beside, JobMove, each_gets, job_of}
+use Rattle.pnp_model.specs.Keyed.{those}
 use Rattle.pnp_model.specs.Machine as ma
 use Rattle.pnp_model.specs.Rebalances as re
 use Rattle.pnp_model.specs.Records.{Core, Course, Driver, Found, Job, Node, Settings, Stage, State, Step, Walk, course_of}
 use Rattle.pnp_model.specs.Records.Stage.{Asking, TakingBack, Searching, Cancelling, Stuck, Stopping, Committing, Restarting, Failed, Ending}
 use Rattle.pnp_model.specs.Runs.{Entry, Goes, opening}
 use Rattle.pnp_model.specs.Runs.Entry.{Happens, Did, Declines}
+use Rattle.pnp_model.specs.States.{device_born}
 use Rattle.pnp_model.specs.Tests.{has}
 use Rattle.pnp_model.specs.Trees.{stands_up}
-use Rattle.pnp_laws.specs.Effects.{OpEffect, Turn, begun}
+use Rattle.pnp_laws.specs.Effects.{OpEffect, Turn, begun, required}
 use Rattle.pnp_laws.specs.Kept.{JobFits, OneIsNext, OperationFits, RemovalAsks, SurpriseEnds, asked_in}
 use Rattle.pnp_laws.specs.Reached.{IsReached}
 use Rattle.pnp_laws.specs.Rebalanced.{Falling, Rising}
@@ -91,7 +94,7 @@ module _ (s : State) (o : Job) (runs : s.operation ≡ Some o) (course : course_
   Q step = (p : Job) → step.state.operation ≡ Some p → Falls p
 
   on : (p q : Job) → Falls q → Some q ≡ Some p → Falls p
-  on p q h e = subst Falls (cc) h
+  on p q h e = let same : q ≡ p = cc in subst Falls same h
 
   act_falls : (stage : Stage) (m : JobMove) → o.stage ≡ stage → RebalanceAct s.core o stage m → Q (ma.job_lifted s m)
   act_falls _ _ at (RebalanceAct.searches found budget answer) p e = by_found found e
@@ -159,8 +162,8 @@ stopping_course Course.Surprising p nodes fits is = absurd (let ends = fits.ends
 stopping_course Course.Finishing p nodes fits is = absurd (let one = fits.one in subst (λ (x : Stage). OneIsNext p x) is one)
 
 begun_falls : (s : State) (kind : OpKind) (node : Node) → course_of (begun s kind node).kind ≡ Course.Rebalancing → Falls (begun s kind node)
-begun_falls s OpKind.Rebalance node course = ask_on_falls _ _
-begun_falls s OpKind.Change node course = ask_on_falls _ _
+begun_falls s OpKind.Rebalance node course = ask_on_falls (record (job_of OpKind.Rebalance node) { wanted = None }) (reverse (serials_of (those re.is_asked s.core.nodes)))
+begun_falls s OpKind.Change node course = ask_on_falls (record (job_of OpKind.Change node) { wanted = Some (required s node (device_born node.born s.world)) }) (reverse (serials_of (those re.is_asked s.core.nodes)))
 begun_falls s OpKind.Disable node course = absurd (let k = (begun_work s OpKind.Disable node).0 in let e = sym (ap course_of k) ∙ course in cc)
 begun_falls s OpKind.Eject node course = absurd (let k = (begun_work s OpKind.Eject node).0 in let e = sym (ap course_of k) ∙ course in cc)
 begun_falls s OpKind.Surprise node course = absurd (let k = (begun_work s OpKind.Surprise node).0 in let e = sym (ap course_of k) ∙ course in cc)
@@ -190,8 +193,8 @@ module _ (settings : Settings) (s : State) (all : Kept s) (before : StopsFall s)
           subst (λ (x : Job). Falling x.todo) own (before o was (ap (λ (x : Job). x.stage) own ∙ is))
 
   pub stops_fall : (entry : Entry) (t : State) → Goes settings s entry t → Kept t → StopsFall t
-  stops_fall (Happens event label) t goes now = event_falls event label t goes
-  stops_fall (Did label) t goes now = did_falls label t goes now (effect_goes settings s (Did label) t goes).operation
+  stops_fall (Happens event label) t goes now p e is = event_falls event label t goes p e is
+  stops_fall (Did label) t goes now p e is = did_falls label t goes now (effect_goes settings s (Did label) t goes).operation p e is
   stops_fall (Declines label) t goes now p e is = before p (ap (λ (x : State). x.operation) (sym goes.dropped) ∙ e) is
 
 reached_kept : (settings : Settings) (rack : List Driver) (s : State) → IsReached settings rack s → Kept s
