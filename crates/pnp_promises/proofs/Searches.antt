@@ -1,19 +1,15 @@
 -- What a search costs: where a budget is spent, more was to be tried.
-use Rattle.std.proofs.Common.{ℕ, ◌<◌, ◌≤◌, ◌≡◌, ◌⊎◌, inl, inr, List, [], ◌∷◌, Option, Some, None, refl, sym, ap, subst, ◌∙◌, arith, nat_le, Bool, true, false}
+use Rattle.std.proofs.Common.{ℕ, ◌<◌, ◌≤◌, ◌≡◌, List, [], ◌∷◌, Option, Some, None, refl, sym, subst, arith, nat_le, Bool, true, false}
 use Rattle.std.proofs.lemmas.Bool.Decides.{nat_tests}
-use Rattle.std.specs.List.{find}
 use Rattle.std.specs.Option.{option_map}
 use Rattle.resource_reqs.specs.Resources.{Reqs, Res}
-use Rattle.resource_reqs.specs.Spelling.{Complete, Coord, IsAnswer, IsFound}
+use Rattle.resource_reqs.specs.Spelling.{IsAnswer}
 use Rattle.resource_reqs.specs.Spelling.Answer.{assignment, no_fit, spent}
 use Rattle.resource_reqs.proofs.Fitting.{plan_of}
 use Rattle.pnp_labels.specs.Texts.{Text}
-use Rattle.pnp_labels.specs.declared.label.Label.{Label}
-use Rattle.pnp_labels.specs.declared.states.Problem.{Problem}
 use Rattle.pnp_model.specs.Cores.{node_at}
 use Rattle.pnp_model.specs.Frames.{first_node}
-use Rattle.pnp_model.specs.Records.{Activity, Course, Doing, Found, Job, Node, Phase, SearchProblem, Settings, Stage, State, Step, Walk, course_of, doing_map}
-use Rattle.pnp_model.specs.Records.Doing.{Does, Searches}
+use Rattle.pnp_model.specs.Records.{Activity, Course, Found, Job, Node, Phase, SearchProblem, Settings, Stage, State, Step, Walk, course_of, doing_map}
 use Rattle.pnp_model.specs.Records.Phase.{Adding, Searching}
 use Rattle.pnp_model.specs.Jobs.{JobMove}
 use Rattle.pnp_model.specs.Machine as ma
@@ -21,7 +17,6 @@ use Rattle.pnp_model.specs.Rebalances as re
 use Rattle.pnp_model.specs.Starts as st
 use Rattle.pnp_laws.specs.Effects.{Acting, IsSearch, Turn}
 use Rattle.pnp_laws.proofs.IdleSteps.{ActivityStep, MachineStep, TaskStep, machine_step}
-use Rattle.pnp_laws.proofs.Lookups.{own_serial}
 use Rattle.pnp_laws.proofs.Stages.{ActStep, FinishAct, JobStep, RebalanceAct, RemovalAct, SurpriseAct}
 use Rattle.pnp_promises.specs.Searches.{BudgetLaw, Costs, Exceeds, IsSought, Tries, Within}
 

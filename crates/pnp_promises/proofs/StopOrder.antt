@@ -1,25 +1,23 @@
 -- Devices are stopped from the greatest serial down.
-use Rattle.std.proofs.Common.{ℕ, ◌<◌, ◌≡◌, ◌≢◌, inl, inr, Bool, true, false, List, [], ◌∷◌, Option, Some, None, refl, sym, ap, subst, ◌∙◌, reverse, if◌then◌else◌}
-use Rattle.std.specs.List.{slice_get}
+use Rattle.std.proofs.Common.{ℕ, ◌≡◌, inl, inr, Bool, true, false, List, [], ◌∷◌, Option, Some, None, refl, sym, ap, subst, ◌∙◌, reverse, if◌then◌else◌}
 use Rattle.resource_reqs.specs.Resources.{Reqs}
 use Rattle.resource_reqs.specs.Spelling.Answer.{assignment, no_fit, spent}
 use Rattle.pnp_labels.specs.declared.event.Event.{Event}
 use Rattle.pnp_labels.specs.declared.label.Label.{Label}
 use Rattle.pnp_labels.specs.declared.label.OpKind.{OpKind}
 use Rattle.pnp_labels.specs.declared.words.Minor.{Minor}
-use Rattle.pnp_model.specs.Events.{answer_of, completed, happens}
+use Rattle.pnp_model.specs.Events.{answer_of, completed}
 use Rattle.pnp_model.specs.Cores.{serials_of}
 use Rattle.pnp_model.specs.Frames.{rest}
 use Rattle.pnp_model.specs.Jobs.{Beside, JobMove, each_gets, job_of}
 use Rattle.pnp_model.specs.Keyed.{those}
 use Rattle.pnp_model.specs.Machine as ma
 use Rattle.pnp_model.specs.Rebalances as re
-use Rattle.pnp_model.specs.Records.{Core, Course, Driver, Found, Job, Node, Settings, Stage, State, Step, Walk, course_of}
-use Rattle.pnp_model.specs.Records.Stage.{Asking, TakingBack, Searching, Cancelling, Stuck, Stopping, Committing, Restarting, Failed, Ending}
-use Rattle.pnp_model.specs.Runs.{Entry, Goes, opening}
+use Rattle.pnp_model.specs.Records.{Core, Course, Driver, Found, Job, Node, Settings, Stage, State, Step, course_of}
+use Rattle.pnp_model.specs.Records.Stage.{Asking, TakingBack, Searching, Cancelling, Stopping, Restarting, Ending}
+use Rattle.pnp_model.specs.Runs.{Entry, Goes}
 use Rattle.pnp_model.specs.Runs.Entry.{Happens, Did, Declines}
 use Rattle.pnp_model.specs.States.{device_born}
-use Rattle.pnp_model.specs.Tests.{has}
 use Rattle.pnp_model.specs.Trees.{stands_up}
 use Rattle.pnp_laws.specs.Effects.{OpEffect, Turn, begun, required}
 use Rattle.pnp_laws.specs.Kept.{JobFits, OneIsNext, OperationFits, RemovalAsks, SurpriseEnds, asked_in}
@@ -28,7 +26,7 @@ use Rattle.pnp_laws.specs.Rebalanced.{Falling, Rising}
 use Rattle.pnp_laws.proofs.Askings.{falling_reverse}
 use Rattle.pnp_laws.proofs.EffectsOf.{effect_goes}
 use Rattle.pnp_laws.proofs.EffectsOfOperations.{begun_work}
-use Rattle.pnp_laws.proofs.EventChanges.{Answered, Outside, happens_outside}
+use Rattle.pnp_laws.proofs.EventChanges.{Answered, happens_outside}
 use Rattle.pnp_laws.proofs.IdleSteps.{MachineStep, machine_step}
 use Rattle.pnp_laws.proofs.Lookups.{some_same}
 use Rattle.pnp_laws.proofs.Reaching.{kept, reached_on}
@@ -37,7 +35,6 @@ use Rattle.pnp_laws.proofs.Stages.{JobStep, OperationStep, RebalanceAct, Rebalan
 use Rattle.pnp_laws.proofs.Standing.{OrderKept, StageKept, kept_by}
 use Rattle.pnp_promises.proofs.Fitting.{asked_is}
 use Rattle.pnp_promises.proofs.Hears.{falls}
-use Rattle.pnp_promises.specs.Hears.{IsAsked}
 use Rattle.pnp_promises.specs.StopOrder.{StoppedLaw}
 
 -- while devices are stopped, those that are left fall

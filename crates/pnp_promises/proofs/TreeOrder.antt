@@ -2,7 +2,7 @@
 use Rattle.std.proofs.Common.{ℕ, zero, suc, ◌+◌, ◌<◌, ◌≤◌, ◌≡◌, ◌==◌, ◌&&◌, ◌⊎◌, inl, inr, not, Bool, true, false, cond, List, [], ◌∷◌, ◌++◌, length, Option, Some, None, refl, sym, ap, ◌∙◌, subst, arith, append_assoc, append-nil}
 use Rattle.std.proofs.lemmas.Bool.Decides.{nat_tests}
 use Rattle.pnp_model.specs.Cores.{node_at}
-use Rattle.pnp_model.specs.Endings.{Placed, placed, print_order, root_of}
+use Rattle.pnp_model.specs.Endings.{Placed, placed, root_of}
 use Rattle.pnp_model.specs.Keyed.{those}
 use Rattle.pnp_model.specs.Records.{Node}
 use Rattle.pnp_model.specs.Trees.{children, is_child}

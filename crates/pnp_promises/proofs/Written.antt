@@ -1,6 +1,5 @@
 -- Each resource is written so.
-use Rattle.std.proofs.Common.{ℕ, ◌≡◌, ◌∷◌, ◌++◌, Bool, true, false, List, [], refl, ap, ◌∙◌, append_assoc}
-use Rattle.resource_reqs.specs.Resources.{Res}
+use Rattle.std.proofs.Common.{ℕ, ◌≡◌, ◌∷◌, ◌++◌, Bool, true, false, refl, ap, ◌∙◌}
 use Rattle.resource_reqs.specs.declared.kind.Kind.{Kind}
 use Rattle.resource_reqs.specs.declared.kind.Kind.TheVariants.{Port, Irq, Mem, Dma, Bus}
 use Rattle.pnp_labels.specs.Texts.{range_text, share_text}

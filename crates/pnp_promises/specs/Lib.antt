@@ -13,3 +13,8 @@ pub mod Searches
 pub mod TreeOrder
 pub mod Written
 pub mod StopOrder
+pub mod Ranks
+pub mod Alone
+pub mod AtRest
+pub mod Pended
+pub mod Named

@@ -1,5 +1,5 @@
 -- What a search costs: where a budget is spent, more was to be tried.
-use Rattle.std.specs.Prelude.{ℕ, ◌+◌, ◌≡◌, ◌<◌, ◌≤◌, List, [], ◌∷◌, Some, None}
+use Rattle.std.specs.Prelude.{ℕ, ◌≡◌, ◌<◌, ◌≤◌, List, [], ◌∷◌, Some, None}
 use Rattle.resource_reqs.specs.Resources.{Reqs, Res}
 use Rattle.resource_reqs.specs.Spelling.{Complete, Coord, IsLeast, Numbers, Tried, TriedUpTo}
 use Rattle.pnp_labels.specs.Texts.{Text}

@@ -1,13 +1,18 @@
 //! What holds of every run of the device machine, in a reader's words.
 
 ghost use Rattle.pnp_promises.specs.Accepted.{AcceptedLaw};
+ghost use Rattle.pnp_promises.specs.Alone.{AloneLaw, TurnBeginsLaw};
 ghost use Rattle.pnp_promises.specs.Asks.{AskLaw, EndLaw};
+ghost use Rattle.pnp_promises.specs.AtRest.{RestLaw, StandsLaw};
 ghost use Rattle.pnp_promises.specs.Endings.{EndTellsLaw};
 ghost use Rattle.pnp_promises.specs.FinishOrder.{FinishOrderLaw};
 ghost use Rattle.pnp_promises.specs.Hears.{HearsLaw, StopOrderLaw};
 ghost use Rattle.pnp_promises.specs.Keeps.{KeepsHoldingsLaw, ScriptHandlesLaw, TurnLaw};
 ghost use Rattle.pnp_promises.specs.Later.{LaterLaw};
 ghost use Rattle.pnp_promises.specs.Lines.{MeaningLaw};
+ghost use Rattle.pnp_promises.specs.Named.{NamedLaw};
+ghost use Rattle.pnp_promises.specs.Pended.{PendedLaw};
+ghost use Rattle.pnp_promises.specs.Ranks.{RankLaw};
 ghost use Rattle.pnp_promises.specs.Refusals.{CauseLaw, RefusedLaw};
 ghost use Rattle.pnp_promises.specs.Searches.{BudgetLaw};
 ghost use Rattle.pnp_promises.specs.StopOrder.{StoppedLaw};
@@ -135,4 +140,44 @@ pub fn resources_are_written()
 /// Devices are stopped from the greatest serial down, so a child before its parent.
 pub fn stopped_from_the_greatest()
     ensures { StoppedLaw }
+{}
+
+/// The best drivers are those of one match of the device's IDs with the INFs', and no match is better: none has a lesser number, and of
+/// those with the same number none is of a newer INF, a higher version, an INF that was named before, or an earlier line.
+pub fn the_best_is_chosen()
+    ensures { RankLaw }
+{}
+
+/// An operation is alone: while one runs nothing is being started, no task is taken, no device joins or gets drivers, and no other
+/// operation begins.
+pub fn operations_are_alone()
+    ensures { AloneLaw }
+{}
+
+/// An operation begins in its turn: the first task is the one for it and its device.
+pub fn operations_begin_in_turn()
+    ensures { TurnBeginsLaw }
+{}
+
+/// Where no operation runs, the device above one that is Started is Started; or it would not start again after it was stopped, and is
+/// due to go with all below it.
+pub fn who_is_up_stands_on_what_is_up()
+    ensures { StandsLaw }
+{}
+
+/// At rest, with nothing under way, nobody is Stopped, and who has gone and is still there is held open: a handle is open to it, or to
+/// one that depends on it.
+pub fn at_rest_who_has_gone_is_held_open()
+    ensures { RestLaw }
+{}
+
+/// A request that a driver left unanswered waits until it is completed: each other event and each step leaves it waiting.
+pub fn what_is_pended_waits()
+    ensures { PendedLaw }
+{}
+
+/// A line changes the device that it names, and no other; but with `commit` places change. A problem is set by a line that tells it, and
+/// is cleared where drivers are chosen anew.
+pub fn only_the_named_device_changes()
+    ensures { NamedLaw }
 {}
