@@ -14,6 +14,7 @@ ghost use Rattle.pnp_promises.specs.Named.{NamedLaw};
 ghost use Rattle.pnp_promises.specs.Pended.{PendedLaw};
 ghost use Rattle.pnp_promises.specs.Ranks.{RankLaw};
 ghost use Rattle.pnp_promises.specs.Refusals.{CauseLaw, RefusedLaw};
+ghost use Rattle.pnp_promises.specs.Relations.{RelationsLaw};
 ghost use Rattle.pnp_promises.specs.Searches.{BudgetLaw};
 ghost use Rattle.pnp_promises.specs.StopOrder.{StoppedLaw};
 ghost use Rattle.pnp_promises.specs.TreeOrder.{TreeStandsLaw};
@@ -180,4 +181,9 @@ pub fn what_is_pended_waits()
 /// is cleared where drivers are chosen anew.
 pub fn only_the_named_device_changes()
     ensures { NamedLaw }
+{}
+
+/// A step makes no relation, and unmakes those alone of which a device that loses its drivers was owner or member.
+pub fn relations_go_with_drivers()
+    ensures { RelationsLaw }
 {}
