@@ -20,7 +20,7 @@ use Rattle.notify_front.specs.Laws.{asked}
 use Rattle.notify_front.specs.Notices.{FrontGoes, FrontRun}
 use Rattle.notify_front.proofs.Runs.{Fits, IsReady, Beside, lifted_step, quiet_hand, unwatch_at, watch_at}
 use Rattle.notify_front.proofs.Told.{Holds, Kept, kept_goes, opening_kept}
-use Rattle.client_promises.specs.Notices.{EndsIn, HasCause, IsGone, IsQuery, IsStay, NoticeLaw}
+use Rattle.client_promises.specs.Notices.{EndsIn, HasCause, IsGone, IsQuery, IsStay, NoticesHaveCausesLaw}
 
 -- What stands last --------------------------------------------------------------------------------------
 
@@ -218,7 +218,7 @@ none_yet ends = by_list ends.earlier ends.is
     by_list [] e = cc
     by_list (x ∷ xs) e = cc
 
-pub notices_have_causes : NoticeLaw
+pub notices_have_causes : NoticesHaveCausesLaw
 notices_have_causes settings rack entries f label g run goes =
     let both = both_run settings rack [] (opening_front (opening rack)) entries f (record { kept = opening_kept settings rack; fresh = none_yet }) run in
     (good_goes settings rack entries f (FrontEntry.Tells label) g both.kept both.fresh goes).cause

@@ -18,7 +18,7 @@ use Rattle.notify_front.specs.Fronts as fr
 use Rattle.notify_front.specs.Fronts.{Answered, Front, FrontEntry, FrontStep, Hand, IsFrontStep, Registration}
 use Rattle.notify_front.specs.Notices.{FrontGoes}
 use Rattle.notify_front.proofs.Runs.{lifted_step}
-use Rattle.client_promises.specs.Registering.{After, ClientAcceptedLaw, ClientCauseLaw, IsExactOf, IsRegistered, RegistrationLaw}
+use Rattle.client_promises.specs.Registering.{After, ClientsAreRegisteredLaw, ClientCausesAreExactLaw, IsExactOf, IsRegistered, RegistrationsAreTheClientsLaw}
 
 -- What an event of a client gives --------------------------------------------------------------------------
 
@@ -98,10 +98,10 @@ happens_says f event = tt
 watches_says : (settings : Settings) (f : Front) (event : Event) (label : Label) (g : Front) → FrontGoes settings f (FrontEntry.Watches event label) g → Says f event (record { label = label; front = g })
 watches_says settings f event label g goes = subst (λ (x : FrontStep). Of f x) goes.1 (happens_says f event)
 
-pub client_causes_are_exact : ClientCauseLaw
+pub client_causes_are_exact : ClientCausesAreExactLaw
 client_causes_are_exact settings rack entries f event label g run goes = (watches_says settings f event label g goes).exact
 
-pub clients_are_registered : ClientAcceptedLaw
+pub clients_are_registered : ClientsAreRegisteredLaw
 clients_are_registered settings rack entries f event deed g run goes = (watches_says settings f event (Label.Did deed) g goes).done
 
 -- And nothing else --------------------------------------------------------------------------------------------
@@ -154,7 +154,7 @@ event_keeps f (Event.Watch client path agrees) step is = subst (λ (x : FrontSte
 event_keeps f (Event.Unwatch client path) step is = subst (λ (x : FrontStep). Keeps f x) is tt
 event_keeps f event step is = passed_keeps f event step is
 
-pub registrations_are_the_clients : RegistrationLaw
+pub registrations_are_the_clients : RegistrationsAreTheClientsLaw
 registrations_are_the_clients settings rack entries f (FrontEntry.Passes (Entry.Happens event label)) g run goes = event_keeps f event (record { entry = FrontEntry.Passes (Entry.Happens event label); front = g }) goes.1
 registrations_are_the_clients settings rack entries f (FrontEntry.Passes (Entry.Did label)) g run goes = hand_keeps settings f (record { entry = FrontEntry.Passes (Entry.Did label); front = g }) f.hand goes
 registrations_are_the_clients settings rack entries f (FrontEntry.Passes (Entry.Declines label)) g run goes = hand_keeps settings f (record { entry = FrontEntry.Passes (Entry.Declines label); front = g }) f.hand goes

@@ -50,7 +50,7 @@ pub data HasCause (entries : List FrontEntry) (f : Front) : Label → Type 0 whe
   stays : (r : Registration) → EndsIn IsStay entries → HasCause entries f (notice NoticeKind.RemoveCancelled r None)
   gone : (r : Registration) → EndsIn IsGone entries → HasCause entries f (notice NoticeKind.RemoveComplete r None)
 
-abbrev pub NoticeLaw : Type 0
-NoticeLaw =
+abbrev pub NoticesHaveCausesLaw : Type 0
+NoticesHaveCausesLaw =
     (settings : Settings) (rack : List Driver) (entries : List FrontEntry) (f : Front) (label : Label) (g : Front)
     → FrontRun settings (opening_front (opening rack)) entries f → FrontGoes settings f (FrontEntry.Tells label) g → HasCause entries f label

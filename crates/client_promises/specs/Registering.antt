@@ -49,8 +49,8 @@ IsExactOf f (Event.Watch client path agrees) label g = ByCauses (WatchCause f cl
 IsExactOf f (Event.Unwatch client path) label g = ByCauses (UnwatchCause f client path) unwatch_causes f label g
 IsExactOf f _ label g = ⊥
 
-abbrev pub ClientCauseLaw : Type 0
-ClientCauseLaw =
+abbrev pub ClientCausesAreExactLaw : Type 0
+ClientCausesAreExactLaw =
     (settings : Settings) (rack : List Driver) (entries : List FrontEntry) (f : Front) (event : Event) (label : Label) (g : Front)
     → FrontRun settings (opening_front (opening rack)) entries f → FrontGoes settings f (FrontEntry.Watches event label) g → IsExactOf f event label g
 
@@ -66,8 +66,8 @@ IsRegistered f (Event.Unwatch client path) deed g =
     TheNode f.state path (λ n. (deed ≡ Deed.Unwatched client n.path) × ((r : Registration) × (find (is_of client n.serial) f.registrations ≡ Some r) × (g ≡ record f { registrations = without_first (is_of r.client r.device) f.registrations })))
 IsRegistered f _ deed g = ⊥
 
-abbrev pub ClientAcceptedLaw : Type 0
-ClientAcceptedLaw =
+abbrev pub ClientsAreRegisteredLaw : Type 0
+ClientsAreRegisteredLaw =
     (settings : Settings) (rack : List Driver) (entries : List FrontEntry) (f : Front) (event : Event) (deed : Deed) (g : Front)
     → FrontRun settings (opening_front (opening rack)) entries f → FrontGoes settings f (FrontEntry.Watches event (Label.Did deed)) g → IsRegistered f event deed g
 
@@ -84,7 +84,7 @@ After f (FrontEntry.Watches event label) g = Unit {0}
 After f (FrontEntry.Tells label) g = AfterNotice f label g
 After f (FrontEntry.Passes entry) g = g.registrations ≡ f.registrations
 
-abbrev pub RegistrationLaw : Type 0
-RegistrationLaw =
+abbrev pub RegistrationsAreTheClientsLaw : Type 0
+RegistrationsAreTheClientsLaw =
     (settings : Settings) (rack : List Driver) (entries : List FrontEntry) (f : Front) (entry : FrontEntry) (g : Front)
     → FrontRun settings (opening_front (opening rack)) entries f → FrontGoes settings f entry g → After f entry g

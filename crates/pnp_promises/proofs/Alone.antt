@@ -15,7 +15,7 @@ use Rattle.pnp_laws.proofs.IdleSteps.{ActivityStep, MachineStep, TaskStep, machi
 use Rattle.pnp_laws.proofs.RunsFacts.{facts_are_kept}
 use Rattle.pnp_laws.proofs.Stages.{ActStep, FinishAct, JobStep, RebalanceAct, RemovalAct, SurpriseAct}
 use Rattle.pnp_promises.specs.Accepted.{task}
-use Rattle.pnp_promises.specs.Alone.{AloneLaw, IsOfOperation, TurnBeginsLaw}
+use Rattle.pnp_promises.specs.Alone.{OperationsAreAloneLaw, IsOfOperation, OperationsBeginInTurnLaw}
 
 module _ (s : State) where
   abbrev P : Step → Type 0
@@ -57,7 +57,7 @@ module _ (s : State) where
   machine_own o _ runs (MachineStep.starts node phase m at acts is) = absurd (let none = acts.none in cc)
   machine_own o step runs (MachineStep.does _ none is) = absurd (cc)
 
-pub operations_are_alone : AloneLaw
+pub operations_are_alone : OperationsAreAloneLaw
 operations_are_alone settings rack entries s label t o run runs goes = (
   (facts_are_kept settings rack entries s run).alone o runs,
   machine_own s o (record { label = label; state = t }) runs (machine_step settings s (record { label = label; state = t }) goes),
@@ -112,6 +112,6 @@ module _ (s : State) (kind : OpKind) (path : Text) where
   machine_first _ (MachineStep.starts node phase m at acts is) e = absurd (start_not node phase m is e)
   machine_first step (MachineStep.does _ none is) e = task_first step is e
 
-pub operations_begin_in_turn : TurnBeginsLaw
+pub operations_begin_in_turn : OperationsBeginInTurnLaw
 operations_begin_in_turn settings rack entries s kind path t run goes =
     machine_first s kind path (record { label = Label.Begin kind path; state = t }) (machine_step settings s (record { label = Label.Begin kind path; state = t }) goes) refl

@@ -24,7 +24,7 @@ use Rattle.pnp_laws.proofs.RunsStep.{quiet_where_it_rests}
 use Rattle.pnp_laws.proofs.Standing.{ToldKept}
 use Rattle.pnp_laws.proofs.Truths.{and_both, or_left}
 use Rattle.pnp_promises.proofs.Words.{edge_depends}
-use Rattle.pnp_promises.specs.AtRest.{IsAtRest, IsHeldOpen, IsUpOrDue, RestLaw, RestsWell, StandsLaw}
+use Rattle.pnp_promises.specs.AtRest.{IsAtRest, IsHeldOpen, IsUpOrDue, AtRestWhoHasGoneIsHeldOpenLaw, RestsWell, WhoIsUpStandsOnWhatIsUpLaw}
 use Rattle.pnp_promises.specs.Words.{DependsOn}
 
 -- a node that passes, where one does
@@ -71,7 +71,7 @@ module _ (s : State) (all : Kept s) (none : s.operation ≡ None) where
       by_state p there RemovePending e = absurd (let c = sym (ap is_calm e) ∙ calm n.parent p there in cc)
       by_state p there SurpriseRemoved e = absurd (let told = calm_told n.parent p there e k n at hangs in cc)
 
-pub who_is_up_stands_on_what_is_up : StandsLaw
+pub who_is_up_stands_on_what_is_up : WhoIsUpStandsOnWhatIsUpLaw
 who_is_up_stands_on_what_is_up settings rack entries s k n run none other at up =
     stands s (reaches_kept settings rack entries s run) none (nobody_is_forgotten settings rack entries s run none).stopped k n other at up
 
@@ -168,5 +168,5 @@ module _ (settings : Settings) (rack : List Driver) (entries : List Entry) (s : 
   rests_well : RestsWell s
   rests_well = record { none_stopped = none_stopped; held = λ k n at gone. held_by all.stands.tree.rank all.stands.tree.ranked (suc (all.stands.tree.rank k)) k n (omega arith) at gone }
 
-pub at_rest_who_has_gone_is_held_open : RestLaw
+pub at_rest_who_has_gone_is_held_open : AtRestWhoHasGoneIsHeldOpenLaw
 at_rest_who_has_gone_is_held_open settings rack entries s run rest = rests_well settings rack entries s run rest

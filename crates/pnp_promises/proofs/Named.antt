@@ -27,7 +27,7 @@ use Rattle.pnp_laws.proofs.Lookups.{joined_keeps, left_from, map_from, node_from
 use Rattle.pnp_laws.proofs.RebalanceRuns.{after_core}
 use Rattle.pnp_laws.proofs.RunsStand.{reaches_kept}
 use Rattle.pnp_laws.proofs.Stages.{ActStep, FinishAct, JobStep, RebalanceAct, RemovalAct, SurpriseAct}
-use Rattle.pnp_promises.specs.Named.{ChangesBy, NamedLaw}
+use Rattle.pnp_promises.specs.Named.{ChangesBy, OnlyTheNamedDeviceChangesLaw}
 
 -- a rebalance acts as it is
 same_job : {s : State} (o p : Job) → Turn s o p → p.walk ≡ None → course_of p.kind ≡ Course.Rebalancing → o ≡ p
@@ -167,6 +167,6 @@ module _ (s : State) (order : Ascending 0 s.core.nodes) (k : ℕ) (n : Node) (at
       subst (λ (nodes : List Node). Named m.label nodes) (sym (beside_nodes node.serial m.frame m.beside m.core)) (start_named node phase m there is)
   machine_named step (MachineStep.does _ none is) = task_named step is
 
-pub only_the_named_device_changes : NamedLaw
+pub only_the_named_device_changes : OnlyTheNamedDeviceChangesLaw
 only_the_named_device_changes settings rack entries s label t k n m run goes at now =
     machine_named s (reaches_kept settings rack entries s run).good.serials k n at (record { label = label; state = t }) (machine_step settings s (record { label = label; state = t }) goes) m now

@@ -26,7 +26,7 @@ use Rattle.pnp_laws.proofs.RunsStep.{quiet_where_it_rests}
 use Rattle.pnp_laws.proofs.Truths.{not_true}
 use Rattle.pnp_promises.proofs.Events.{accepted_is_done, refused_changes_nothing}
 use Rattle.pnp_promises.specs.Accepted.{ClosedHandle, GotAnswer, IsDone}
-use Rattle.pnp_promises.specs.Pended.{IsCompletion, PendedLaw}
+use Rattle.pnp_promises.specs.Pended.{IsCompletion, WhatIsPendedWaitsLaw}
 use Rattle.pnp_promises.specs.Refusals.{AwaitsAnswer, ChangesNothing, TheNode}
 
 -- where operation and activities stay
@@ -143,7 +143,7 @@ module _ (s : State) (k : ℕ) (minor : Minor) (order : InOrder 0 s.activities) 
   machine_still _ (MachineStep.starts node phase m there acts is) = start_still node phase m acts
   machine_still step (MachineStep.does _ idle is) = task_still step is
 
-pub what_is_pended_waits : PendedLaw
+pub what_is_pended_waits : WhatIsPendedWaitsLaw
 what_is_pended_waits settings rack entries s entry t k minor run goes waits = by_entry entry goes
   where
     alone : (o : Job) → s.operation ≡ Some o → s.activities ≡ []

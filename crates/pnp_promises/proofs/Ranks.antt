@@ -7,7 +7,7 @@ use Rattle.driver_rank.specs.First.{least_of}
 use Rattle.driver_rank.specs.declared.choice.Choice.{Choice}
 use Rattle.driver_rank.proofs.Orders.{better_order, better_self}
 use Rattle.driver_rank.proofs.Winners.{least_in, none_before}
-use Rattle.pnp_promises.specs.Ranks.{IsNoWorse, LessOr, RankLaw}
+use Rattle.pnp_promises.specs.Ranks.{IsNoWorse, LessOr, TheBestIsChosenLaw}
 
 -- where a is not less, and between equal ones what follows is not so, b is less, or they are equal
 less_or : (a b : ℕ) (rest : Bool) (Rest : Type 0) → by a b rest ≡ false → (rest ≡ false → Rest) → LessOr b a Rest
@@ -29,5 +29,5 @@ of_match : (ms : List Match) (o : Option Match) (choice : Choice) → least_of i
 of_match ms None choice at e = absurd (cc)
 of_match ms (Some m) choice at e = (m, least_in is_better ms m at, (cc), λ other c. no_worse m other (none_before is_better better_order better_self ms m at other c))
 
-pub the_best_is_chosen : RankLaw
+pub the_best_is_chosen : TheBestIsChosenLaw
 the_best_is_chosen infs hw compat choice e = of_match (matches (given_of hw compat) infs) (least_of is_better (matches (given_of hw compat) infs)) choice refl e

@@ -20,7 +20,7 @@ use Rattle.pnp_laws.proofs.IdleSteps.{ActivityStep, MachineStep, TaskStep, machi
 use Rattle.pnp_laws.proofs.Lists.{head_found}
 use Rattle.pnp_laws.proofs.RebalanceRuns.{after_core}
 use Rattle.pnp_laws.proofs.Stages.{ActStep, FinishAct, JobStep, RebalanceAct, RemovalAct, SurpriseAct}
-use Rattle.pnp_promises.specs.Relations.{RelationsLaw}
+use Rattle.pnp_promises.specs.Relations.{RelationsGoWithDriversLaw}
 
 module _ (s : State) where
   -- of the relations after a step
@@ -114,5 +114,5 @@ module _ (s : State) where
       subst (λ (relations : List Relation). Kept m.label relations) (sym (beside_relations node m.frame m.beside m.core)) (start_kept node phase m there is)
   machine_kept step (MachineStep.does _ none is) = task_kept step is
 
-pub relations_go_with_drivers : RelationsLaw
+pub relations_go_with_drivers : RelationsGoWithDriversLaw
 relations_go_with_drivers settings rack entries s label t run goes = machine_kept s (record { label = label; state = t }) (machine_step settings s (record { label = label; state = t }) goes)

@@ -18,7 +18,7 @@ use Rattle.pnp_model.specs.Starts as st
 use Rattle.pnp_laws.specs.Effects.{Acting, IsSearch, Turn}
 use Rattle.pnp_laws.proofs.IdleSteps.{ActivityStep, MachineStep, TaskStep, machine_step}
 use Rattle.pnp_laws.proofs.Stages.{ActStep, FinishAct, JobStep, RebalanceAct, RemovalAct, SurpriseAct}
-use Rattle.pnp_promises.specs.Searches.{BudgetLaw, Costs, Exceeds, IsSought, Tries, Within}
+use Rattle.pnp_promises.specs.Searches.{SearchesKeepTheBudgetLaw, Costs, Exceeds, IsSought, Tries, Within}
 
 -- By the answer of a search ------------------------------------------------------------------------
 
@@ -176,6 +176,6 @@ module _ (settings : Settings) (s : State) where
   by_machine _ (MachineStep.starts node phase m at acts act) is = by_start node phase m at acts act is
   by_machine step (MachineStep.does _ none task) is = by_task step task
 
-pub searches_keep_the_budget : BudgetLaw
+pub searches_keep_the_budget : SearchesKeepTheBudgetLaw
 searches_keep_the_budget settings rack entries s label t run goes =
     by_machine settings s (record { label = label; state = t }) (machine_step settings s (record { label = label; state = t }) goes) goes

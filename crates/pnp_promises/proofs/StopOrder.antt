@@ -35,7 +35,7 @@ use Rattle.pnp_laws.proofs.Stages.{JobStep, OperationStep, RebalanceAct, Rebalan
 use Rattle.pnp_laws.proofs.Standing.{OrderKept, StageKept, kept_by}
 use Rattle.pnp_promises.proofs.Fitting.{asked_is}
 use Rattle.pnp_promises.proofs.Hears.{falls}
-use Rattle.pnp_promises.specs.StopOrder.{StoppedLaw}
+use Rattle.pnp_promises.specs.StopOrder.{StoppedFromTheGreatestLaw}
 
 -- while devices are stopped, those that are left fall
 abbrev Falls : Job → Type 0
@@ -221,7 +221,7 @@ stop_stage Course.Surprising _ e = absurd (cc)
 stop_stage Course.Finishing Stage.Removing e = absurd (cc)
 stop_stage Course.Finishing _ e = absurd (cc)
 
-pub stopped_from_the_greatest : StoppedLaw
+pub stopped_from_the_greatest : StoppedFromTheGreatestLaw
 stopped_from_the_greatest settings rack entries s k w run asked is =
     let o = asked.operation in
     let all = reaches_kept settings rack entries s run in

@@ -23,14 +23,14 @@ IsOfOperation (Label.Begin kind path) = ⊥
 IsOfOperation _ = Unit {0}
 
 -- while an operation runs nothing is being started, and each step is its own
-abbrev pub AloneLaw : Type 0
-AloneLaw =
+abbrev pub OperationsAreAloneLaw : Type 0
+OperationsAreAloneLaw =
     (settings : Settings) (rack : List Driver) (entries : List Entry) (s : State) (label : Label) (t : State) (o : Job)
     → Reaches settings rack entries s → s.operation ≡ Some o → Goes settings s (Did label) t → (s.activities ≡ []) × IsOfOperation label
 
 -- what begins is what the first task says
-abbrev pub TurnBeginsLaw : Type 0
-TurnBeginsLaw =
+abbrev pub OperationsBeginInTurnLaw : Type 0
+OperationsBeginInTurnLaw =
     (settings : Settings) (rack : List Driver) (entries : List Entry) (s : State) (kind : OpKind) (path : Text) (t : State)
     → Reaches settings rack entries s → Goes settings s (Did (Label.Begin kind path)) t
     → (n : Node) × (node_at n.serial s.core.nodes ≡ Some n) × (n.path ≡ path) × (slice_get s.tasks 0 ≡ Some (task (Duty.Begins kind) n))

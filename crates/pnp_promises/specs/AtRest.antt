@@ -15,8 +15,8 @@ abbrev pub IsUpOrDue : State → Node → Type 0
 IsUpOrDue s p = (p.state ≡ Started) ⊎ ((p.state ≡ Stopped) × (is_due s.tasks s.core.nodes p.serial ≡ true))
 
 -- where no operation runs, who is Started stands on such a device
-abbrev pub StandsLaw : Type 0
-StandsLaw =
+abbrev pub WhoIsUpStandsOnWhatIsUpLaw : Type 0
+WhoIsUpStandsOnWhatIsUpLaw =
     (settings : Settings) (rack : List Driver) (entries : List Entry) (s : State) (k : ℕ) (n : Node)
     → Reaches settings rack entries s → s.operation ≡ None → k ≢ 0 → node_at k s.core.nodes ≡ Some n → n.state ≡ Started
     → (p : Node) × (node_at n.parent s.core.nodes ≡ Some p) × IsUpOrDue s p
@@ -36,5 +36,5 @@ pub record RestsWell (s : State) : Type 0 where
   pub none_stopped : (k : ℕ) (n : Node) → node_at k s.core.nodes ≡ Some n → n.state ≢ Stopped
   pub held : (k : ℕ) (n : Node) → node_at k s.core.nodes ≡ Some n → n.state ≡ SurpriseRemoved → IsHeldOpen s k
 
-abbrev pub RestLaw : Type 0
-RestLaw = (settings : Settings) (rack : List Driver) (entries : List Entry) (s : State) → Reaches settings rack entries s → IsAtRest settings s → RestsWell s
+abbrev pub AtRestWhoHasGoneIsHeldOpenLaw : Type 0
+AtRestWhoHasGoneIsHeldOpenLaw = (settings : Settings) (rack : List Driver) (entries : List Entry) (s : State) → Reaches settings rack entries s → IsAtRest settings s → RestsWell s

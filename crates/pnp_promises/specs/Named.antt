@@ -23,8 +23,8 @@ ChangesBy s (Label.Commit movers) n m = (m.problem ≡ n.problem) × (m.state �
 ChangesBy s _ n m = ⊥
 
 -- so each device that is there before and after a step is as it was, or changes by the line of the step
-abbrev pub NamedLaw : Type 0
-NamedLaw =
+abbrev pub OnlyTheNamedDeviceChangesLaw : Type 0
+OnlyTheNamedDeviceChangesLaw =
     (settings : Settings) (rack : List Driver) (entries : List Entry) (s : State) (label : Label) (t : State) (k : ℕ) (n m : Node)
     → Reaches settings rack entries s → Goes settings s (Did label) t → node_at k s.core.nodes ≡ Some n → node_at k t.core.nodes ≡ Some m
     → (m ≡ n) ⊎ ChangesBy s label n m

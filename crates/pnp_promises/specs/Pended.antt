@@ -14,7 +14,7 @@ IsCompletion s (Happens (Event.Complete path own ok) label) k minor = TheNode s 
 IsCompletion s entry k minor = ⊥
 
 -- a request whose answer is waited for is waited for still, but where it is completed
-abbrev pub PendedLaw : Type 0
-PendedLaw =
+abbrev pub WhatIsPendedWaitsLaw : Type 0
+WhatIsPendedWaitsLaw =
     (settings : Settings) (rack : List Driver) (entries : List Entry) (s : State) (entry : Entry) (t : State) (k : ℕ) (minor : Minor)
     → Reaches settings rack entries s → Goes settings s entry t → AwaitsAnswer s k minor → AwaitsAnswer t k minor ⊎ IsCompletion s entry k minor

@@ -15,8 +15,8 @@ IsNoWorse m other =
     (LessOr other.date m.date (LessOr other.version m.version (LessOr m.inf other.inf (LessOr m.line.line other.line.line (m.place ≤ other.place)))))
 
 -- what is chosen is one of the matches, and no worse than any
-abbrev pub RankLaw : Type 0
-RankLaw =
+abbrev pub TheBestIsChosenLaw : Type 0
+TheBestIsChosenLaw =
     (infs : List Inf) (hw compat : List (List ℕ)) (choice : Choice) → best infs hw compat ≡ Some choice
     → (m : Match) × Contains (matches (given_of hw compat) infs) m × (choice_of m ≡ choice)
     × ((other : Match) → Contains (matches (given_of hw compat) infs) other → IsNoWorse m other)

@@ -13,7 +13,7 @@ abbrev pub GoesWithDrivers : State → Label → State → Type 0
 GoesWithDrivers s label t = (n : Node) × (node_at n.serial s.core.nodes ≡ Some n) × (label ≡ Label.State n.path NoStack) × (t.core.relations ≡ forget n.serial s.core.relations)
 
 -- a step makes no relation, and unmakes none but so
-abbrev pub RelationsLaw : Type 0
-RelationsLaw =
+abbrev pub RelationsGoWithDriversLaw : Type 0
+RelationsGoWithDriversLaw =
     (settings : Settings) (rack : List Driver) (entries : List Entry) (s : State) (label : Label) (t : State)
     → Reaches settings rack entries s → Goes settings s (Did label) t → (t.core.relations ≡ s.core.relations) ⊎ GoesWithDrivers s label t

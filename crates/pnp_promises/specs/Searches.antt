@@ -44,7 +44,7 @@ Costs settings s (Label.NoFit path) = Within settings.budget s path
 Costs settings s (Label.Spent path) = Exceeds settings.budget s path
 Costs settings s _ = Unit {0}
 
-abbrev pub BudgetLaw : Type 0
-BudgetLaw =
+abbrev pub SearchesKeepTheBudgetLaw : Type 0
+SearchesKeepTheBudgetLaw =
     (settings : Settings) (rack : List Driver) (entries : List Entry) (s : State) (label : Label) (t : State)
     → Reaches settings rack entries s → Goes settings s (Did label) t → Costs settings s label

@@ -24,5 +24,5 @@ mark_of true = codes ":shared"
 mark_of false = []
 
 -- the kind, a colon, the first number, a dash, the last number, and whether it is shared
-abbrev pub WrittenLaw : Type 0
-WrittenLaw = (res : Res) → res_text res ≡ word_of res.kind ++ 58 ∷ (number_of res.kind res.lo ++ 45 ∷ number_of res.kind res.hi) ++ mark_of res.shared
+abbrev pub ResourcesAreWrittenLaw : Type 0
+ResourcesAreWrittenLaw = (res : Res) → res_text res ≡ word_of res.kind ++ 58 ∷ (number_of res.kind res.lo ++ 45 ∷ number_of res.kind res.hi) ++ mark_of res.shared

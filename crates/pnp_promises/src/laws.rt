@@ -1,26 +1,26 @@
 //! What holds of every run of the device machine, in a reader's words.
 
 ghost use Rattle.pnp_promises.specs.Accepted.{AcceptedLaw};
-ghost use Rattle.pnp_promises.specs.Alone.{AloneLaw, TurnBeginsLaw};
+ghost use Rattle.pnp_promises.specs.Alone.{OperationsAreAloneLaw, OperationsBeginInTurnLaw};
 ghost use Rattle.pnp_promises.specs.Asks.{AskLaw, EndLaw};
-ghost use Rattle.pnp_promises.specs.AtRest.{RestLaw, StandsLaw};
+ghost use Rattle.pnp_promises.specs.AtRest.{AtRestWhoHasGoneIsHeldOpenLaw, WhoIsUpStandsOnWhatIsUpLaw};
 ghost use Rattle.pnp_promises.specs.Endings.{EndTellsLaw};
 ghost use Rattle.pnp_promises.specs.FinishOrder.{FinishOrderLaw};
 ghost use Rattle.pnp_promises.specs.Hears.{HearsLaw, StopOrderLaw};
 ghost use Rattle.pnp_promises.specs.Keeps.{KeepsHoldingsLaw, ScriptHandlesLaw, TurnLaw};
 ghost use Rattle.pnp_promises.specs.Later.{LaterLaw};
 ghost use Rattle.pnp_promises.specs.Lines.{MeaningLaw};
-ghost use Rattle.pnp_promises.specs.Named.{NamedLaw};
-ghost use Rattle.pnp_promises.specs.Pended.{PendedLaw};
-ghost use Rattle.pnp_promises.specs.Ranks.{RankLaw};
+ghost use Rattle.pnp_promises.specs.Named.{OnlyTheNamedDeviceChangesLaw};
+ghost use Rattle.pnp_promises.specs.Pended.{WhatIsPendedWaitsLaw};
+ghost use Rattle.pnp_promises.specs.Ranks.{TheBestIsChosenLaw};
 ghost use Rattle.pnp_promises.specs.Refusals.{CauseLaw, RefusedLaw};
-ghost use Rattle.pnp_promises.specs.Relations.{RelationsLaw};
-ghost use Rattle.pnp_promises.specs.Searches.{BudgetLaw};
-ghost use Rattle.pnp_promises.specs.StopOrder.{StoppedLaw};
+ghost use Rattle.pnp_promises.specs.Relations.{RelationsGoWithDriversLaw};
+ghost use Rattle.pnp_promises.specs.Searches.{SearchesKeepTheBudgetLaw};
+ghost use Rattle.pnp_promises.specs.StopOrder.{StoppedFromTheGreatestLaw};
 ghost use Rattle.pnp_promises.specs.TreeOrder.{TreeStandsLaw};
 ghost use Rattle.pnp_promises.specs.Words.{DependsLaw, PathLaw};
 ghost use Rattle.pnp_promises.specs.World.{WorldLaw};
-ghost use Rattle.pnp_promises.specs.Written.{WrittenLaw};
+ghost use Rattle.pnp_promises.specs.Written.{ResourcesAreWrittenLaw};
 
 /// A refused event changes nothing.
 pub fn refused_changes_nothing()
@@ -123,7 +123,7 @@ pub fn finished_from_the_greatest()
 /// A search keeps its budget: where `assign`, `fits` or `nofit` is printed, at most so many prefixes as the budget says were to be
 /// tried for what was sought; where `spent` is printed, more.
 pub fn searches_keep_the_budget()
-    ensures { BudgetLaw }
+    ensures { SearchesKeepTheBudgetLaw }
 {}
 
 /// Under `tree` each line stands below that of its parent, one level deeper, which is the last line before it that stands less deep; and
@@ -135,55 +135,55 @@ pub fn tree_stands()
 /// Ports and memory are written in hexadecimal, interrupts, DMA channels and bus numbers in decimal: the kind, the first number, the
 /// last number, and whether they are shared.
 pub fn resources_are_written()
-    ensures { WrittenLaw }
+    ensures { ResourcesAreWrittenLaw }
 {}
 
 /// Devices are stopped from the greatest serial down, so a child before its parent.
 pub fn stopped_from_the_greatest()
-    ensures { StoppedLaw }
+    ensures { StoppedFromTheGreatestLaw }
 {}
 
 /// The best drivers are those of one match of the device's IDs with the INFs', and no match is better: none has a lesser number, and of
 /// those with the same number none is of a newer INF, a higher version, an INF that was named before, or an earlier line.
 pub fn the_best_is_chosen()
-    ensures { RankLaw }
+    ensures { TheBestIsChosenLaw }
 {}
 
 /// An operation is alone: while one runs nothing is being started, no task is taken, no device joins or gets drivers, and no other
 /// operation begins.
 pub fn operations_are_alone()
-    ensures { AloneLaw }
+    ensures { OperationsAreAloneLaw }
 {}
 
 /// An operation begins in its turn: the first task is the one for it and its device.
 pub fn operations_begin_in_turn()
-    ensures { TurnBeginsLaw }
+    ensures { OperationsBeginInTurnLaw }
 {}
 
 /// Where no operation runs, the device above one that is Started is Started; or it would not start again after it was stopped, and is
 /// due to go with all below it.
 pub fn who_is_up_stands_on_what_is_up()
-    ensures { StandsLaw }
+    ensures { WhoIsUpStandsOnWhatIsUpLaw }
 {}
 
 /// At rest, with nothing under way, nobody is Stopped, and who has gone and is still there is held open: a handle is open to it, or to
 /// one that depends on it.
 pub fn at_rest_who_has_gone_is_held_open()
-    ensures { RestLaw }
+    ensures { AtRestWhoHasGoneIsHeldOpenLaw }
 {}
 
 /// A request that a driver left unanswered waits until it is completed: each other event and each step leaves it waiting.
 pub fn what_is_pended_waits()
-    ensures { PendedLaw }
+    ensures { WhatIsPendedWaitsLaw }
 {}
 
 /// A line changes the device that it names, and no other; but with `commit` places change. A problem is set by a line that tells it, and
 /// is cleared where drivers are chosen anew.
 pub fn only_the_named_device_changes()
-    ensures { NamedLaw }
+    ensures { OnlyTheNamedDeviceChangesLaw }
 {}
 
 /// A step makes no relation, and unmakes those alone of which a device that loses its drivers was owner or member.
 pub fn relations_go_with_drivers()
-    ensures { RelationsLaw }
+    ensures { RelationsGoWithDriversLaw }
 {}
