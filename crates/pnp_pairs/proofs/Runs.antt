@@ -1,0 +1,58 @@
+-- A run under other words is a run.
+use Rattle.std.proofs.Common.{ℕ, ◌≡◌, List, [], ◌∷◌, map, Option, Some, None, refl, sym, ap, ap₂, ◌∙◌, subst}
+use Rattle.std.specs.Prelude.{drop, option_map}
+use Rattle.pnp_labels.specs.Texts.{Text}
+use Rattle.pnp_labels.specs.declared.label.Label.{Label}
+use Rattle.pnp_model.specs.Cores.{node_at, path_of}
+use Rattle.pnp_model.specs.Machine.{IsDeclined}
+use Rattle.pnp_model.specs.Records.{Beginning, Core, Driver, Settings, State, Step}
+use Rattle.pnp_model.specs.Runs.{Entry, Goes, Run, opening, root_path}
+use Rattle.pnp_model.specs.Runs.Entry.{Happens, Did, Declines}
+use Rattle.pnp_pairs.specs.Renamed as renamed
+use Rattle.pnp_pairs.specs.Renamed.{Renaming}
+use Rattle.pnp_pairs.specs.Renaming.{ChooseAlike, RenamingLaw}
+use Rattle.pnp_pairs.proofs.Events.{happens_same}
+use Rattle.pnp_pairs.proofs.Jobs.{path_same}
+use Rattle.pnp_pairs.proofs.Machine.{due_same, quiet_same, steps_same}
+use Rattle.pnp_pairs.proofs.Trees.{at}
+
+-- the same at a root of this path
+abbrev opening_at : Text → List Driver → State
+opening_at path rack =
+    record (opening rack) {
+      world = record { born = 0; parent = 0; path = path; hw = []; compat = []; reqs = [] } ∷ [];
+      core = record (opening rack).core { nodes = record Rattle.pnp_model.specs.Runs.root_node { path = path } ∷ [] };
+    }
+
+module _ (r : Renaming) where
+  opening_same : (rack : List Driver) → renamed.state r (opening rack) ≡ opening (renamed.rack r rack)
+  opening_same rack = ap (λ (path : Text). opening_at path (renamed.rack r rack)) r.root
+
+  declined_same : (old new : State) (label : Label) → IsDeclined old label new → IsDeclined (renamed.state r old) (renamed.label r label) (renamed.state r new)
+  declined_same old new label h =
+      record {
+        first = h.first;
+        client = h.client;
+        is_due = due_same r old ∙ h.is_due;
+        in_order = h.in_order;
+        says =
+            ap (renamed.label r) h.says
+            ∙ ap (λ (path : Text). Label.Declined h.first.kind path h.client)
+            (sym (ap path_of (at r h.first.serial old.core.nodes) ∙ path_same r (node_at h.first.serial old.core.nodes)));
+        dropped = ap (renamed.state r) h.dropped;
+      }
+
+  module _ (settings other : Settings) (alike : ChooseAlike r settings other) where
+    goes_same : (old new : State) (entry : Entry) → Goes settings old entry new → Goes other (renamed.state r old) (renamed.entry r entry) (renamed.state r new)
+    goes_same old new (Happens event label) (quiet, h) = (quiet_same r settings other alike old quiet, happens_same r old event ∙ ap (renamed.step r) h)
+    goes_same old new (Did label) h = steps_same r settings other alike old label new h
+    goes_same old new (Declines label) h = declined_same old new label h
+
+    run_same : (old new : State) (entries : List Entry) → Run settings old entries new → Run other (renamed.state r old) (map (renamed.entry r) entries) (renamed.state r new)
+    run_same old new [] h = ap (renamed.state r) h
+    run_same old new (entry ∷ rest) (mid, goes, run) = (renamed.state r mid, goes_same old mid entry goes, run_same mid new rest run)
+
+pub renaming_renames : RenamingLaw
+renaming_renames r settings other rack entries s alike run =
+    (subst (λ (x : State). Run other x (map (renamed.entry r) entries) (renamed.state r s)) (opening_same r rack) (run_same r settings other alike (opening rack) s entries run),
+    quiet_same r settings other alike s)

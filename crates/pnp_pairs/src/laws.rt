@@ -1,0 +1,9 @@
+//! What holds of two runs of the device machine.
+
+ghost use Rattle.pnp_pairs.specs.Renaming.{RenamingLaw};
+
+/// Renaming: where paths, identifiers and names of drivers are others, one to one, in what happens and in drivers and INFs, the machine
+/// does and prints the same with the new words.
+pub fn renaming_renames()
+    ensures { RenamingLaw }
+{}
