@@ -1,5 +1,5 @@
 -- Drivers under other names: each answers what it did, and has the number that it had.
-use Rattle.std.proofs.Common.{ℕ, ◌≡◌, Bool, true, false, List, [], ◌∷◌, map, Option, Some, None, slice_get, refl, sym, ap, ap₂, ◌∙◌}
+use Rattle.std.proofs.Common.{ℕ, ◌≡◌, Bool, List, [], ◌∷◌, map, Option, Some, None, slice_get, refl, sym, ap, ap₂, ◌∙◌}
 use Rattle.std.specs.Prelude.{◌&&◌, option_map, find, is_none}
 use Rattle.pnp_labels.specs.Texts.{Text}
 use Rattle.pnp_labels.specs.declared.event.Rule.{Rule}
@@ -12,7 +12,6 @@ use Rattle.pnp_labels.specs.declared.label.Label.{Label}
 use Rattle.pnp_model.specs.Books.{answer_in, book_of, driver_named, fits, has_uses, is_named, is_unnamed, later, name_is, name_of, name_or_none, path_fits, printed_name, rack_after, rack_reply, reply, used, with_later}
 use Rattle.pnp_model.specs.Cores.{change_node, core_of, is_node, set_rack}
 use Rattle.pnp_model.specs.Frames.{Ask, ask_driver, asked, ended, next_driver}
-use Rattle.pnp_model.specs.Keyed.{changed_first}
 use Rattle.pnp_model.specs.Records.{Core, Driver, Node, Walk}
 use Rattle.pnp_model.specs.Tasks.{numbered, numbered_more}
 use Rattle.pnp_model.specs.Tests.{same_kind, same_what}

@@ -1,5 +1,5 @@
 -- What happens under other words.
-use Rattle.std.proofs.Common.{ℕ, ◌+◌, ◌≡◌, Bool, true, false, not, List, [], ◌∷◌, ◌++◌, length, map, Option, Some, None, is_some, refl, sym, ap, ap₂, ◌∙◌, if◌then◌else◌}
+use Rattle.std.proofs.Common.{ℕ, ◌+◌, ◌≡◌, Bool, true, false, not, List, [], ◌∷◌, ◌++◌, map, Option, Some, None, is_some, refl, sym, ap, ap₂, ◌∙◌, if◌then◌else◌}
 use Rattle.std.specs.Prelude.{◌==◌, ◌&&◌, ◌||◌, find, is_none, nat_le, nat_lt, option_map}
 use Rattle.std.specs.List.{list_any}
 use Rattle.device_ids.specs.Folding.{same}
@@ -15,17 +15,16 @@ use Rattle.pnp_labels.specs.declared.words.DriverKind.{DriverKind}
 use Rattle.pnp_labels.specs.declared.words.Minor.{Minor}
 use Rattle.pnp_labels.specs.declared.words.RelKind.{RelKind}
 use Rattle.pnp_model.specs.Books.{is_named, is_unnamed, printed_name, with_name}
-use Rattle.pnp_model.specs.Cores.{node_at, set_rack}
+use Rattle.pnp_model.specs.Cores.{set_rack}
 use Rattle.pnp_model.specs.Events as events
 use Rattle.pnp_model.specs.Events.{answer_of, completed, did, happens, has_children, is_relation, operation_waits, refused, unless, waits_for, with_rule}
-use Rattle.pnp_model.specs.Frames.{held_by}
 use Rattle.pnp_model.specs.Handles.{closed_with, is_handle_of}
 use Rattle.pnp_model.specs.Machine.{phase_walk}
-use Rattle.pnp_model.specs.Records.{Activity, Core, Device, Driver, Duty, Handle, Job, Node, State, Step}
+use Rattle.pnp_model.specs.Records.{Activity, Device, Driver, Duty, Handle, Job, Node, State, Step}
 use Rattle.pnp_model.specs.States as states
 use Rattle.pnp_model.specs.States.{activity_at, append_task, change_device, device_of, has_below, is_below, is_in_world, list_node, node_born, node_of, requires, with_core}
-use Rattle.pnp_model.specs.Tests.{has, has_same, is_scripted, is_started, is_surprise_removed}
-use Rattle.pnp_model.specs.Trees.{dependents, is_child}
+use Rattle.pnp_model.specs.Tests.{has, is_scripted, is_started, is_surprise_removed}
+use Rattle.pnp_model.specs.Trees.{is_child}
 use Rattle.pnp_model.specs.Windows.{is_window_on}
 use Rattle.pnp_pairs.specs.Renamed as renamed
 use Rattle.pnp_pairs.specs.Renamed.{Renaming}

@@ -1,13 +1,12 @@
 -- What the operations share, under other words: requests, and how an operation stands after one.
-use Rattle.std.proofs.Common.{ℕ, ◌≡◌, Bool, true, false, List, [], ◌∷◌, length, Option, Some, None, refl, sym, ap, ap₂, ◌∙◌, if◌then◌else◌}
+use Rattle.std.proofs.Common.{ℕ, ◌≡◌, Bool, true, false, List, [], ◌∷◌, length, Option, Some, None, refl, sym, ap, if◌then◌else◌}
 use Rattle.std.specs.Prelude.{option_map}
-use Rattle.pnp_labels.specs.Texts.{Text}
 use Rattle.pnp_labels.specs.declared.words.Minor.{Minor}
 use Rattle.pnp_model.specs.Cores.{path_of, stack_of}
-use Rattle.pnp_model.specs.Frames.{Ask, asked, ended, state_label}
+use Rattle.pnp_model.specs.Frames.{asked, state_label}
 use Rattle.pnp_model.specs.Jobs as jobs
 use Rattle.pnp_model.specs.Jobs.{Beside, JobMove, each_gets, moves, walks}
-use Rattle.pnp_model.specs.Records.{Core, Doing, Job, Node, Stage, Walk, doing_map}
+use Rattle.pnp_model.specs.Records.{Core, Job, Node, Stage, Walk, doing_map}
 use Rattle.pnp_model.specs.Records.Doing.{Does}
 use Rattle.pnp_model.specs.Walks.{has_ended, is_bad}
 use Rattle.pnp_pairs.specs.Renamed as renamed

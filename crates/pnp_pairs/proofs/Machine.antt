@@ -6,12 +6,12 @@ use Rattle.device_ids.specs.Folding.{same}
 use Rattle.pnp_labels.specs.Texts.{Text}
 use Rattle.pnp_labels.specs.declared.label.Label.{Label}
 use Rattle.pnp_labels.specs.declared.label.OpKind.{OpKind}
-use Rattle.pnp_model.specs.Cores.{node_at, path_of}
+use Rattle.pnp_model.specs.Cores.{node_at}
 use Rattle.pnp_model.specs.Frames.{first_node}
 use Rattle.pnp_model.specs.Jobs.{Beside, JobMove}
 use Rattle.pnp_model.specs.Machine as machine
 use Rattle.pnp_model.specs.Machine.{acts, after_end, after_job, after_start, begin_alone, idle_next, is_back, is_begin, is_born, is_ready, is_waiting, IsStep, job_lifted, job_step, next, next_of, operation_next, start_lifted, task_next, task_of}
-use Rattle.pnp_model.specs.Records.{Activity, Beginning, Core, Course, Device, Doing, Duty, Found, Handle, Job, Node, Phase, SearchProblem, Settings, State, Step, Task, Walk, course_of, doing_map}
+use Rattle.pnp_model.specs.Records.{Activity, Core, Course, Device, Doing, Duty, Found, Handle, Job, Node, Phase, Settings, State, Step, Task, Walk, course_of, doing_map}
 use Rattle.pnp_model.specs.Records.Doing.{Does, Searches}
 use Rattle.pnp_model.specs.Starts.{StartBeside, StartMove, act}
 use Rattle.pnp_model.specs.States.{device_of, list_node, node_born, relist, relist_device, relist_other, set_operation, unplug, with_core, without_those}
@@ -21,7 +21,7 @@ use Rattle.pnp_model.specs.Walks.{is_bad}
 use Rattle.pnp_pairs.specs.Renamed as renamed
 use Rattle.pnp_pairs.specs.Renamed.{Renaming}
 use Rattle.pnp_pairs.specs.Renaming.{ChooseAlike}
-use Rattle.pnp_pairs.proofs.Jobs.{beside, does_map, job_move, path_same, walks_same}
+use Rattle.pnp_pairs.proofs.Jobs.{beside, does_map, job_move, walks_same}
 use Rattle.pnp_pairs.proofs.Maps.{choose_map, find_map}
 use Rattle.pnp_pairs.proofs.Rebalances as rebalances
 use Rattle.pnp_pairs.proofs.Removals.{finish_acts, finish_after, removal_acts, removal_after, surprise_acts, surprise_after}

@@ -1,9 +1,8 @@
 -- Lists that are renamed member by member: what is found, kept, changed or left out is renamed too.
-use Rattle.std.proofs.Common.{ℕ, zero, suc, ◌+◌, ◌≡◌, Bool, true, false, not, cond, List, [], ◌∷◌, ◌++◌, map, length, set, slice_get, Option, Some, None, position, refl, sym, ap, ap₂, ◌∙◌, arith}
+use Rattle.std.proofs.Common.{ℕ, zero, suc, ◌+◌, ◌≡◌, Bool, true, false, not, cond, List, [], ◌∷◌, map, length, set, slice_get, Option, Some, None, position, refl, ap, ap₂, ◌∙◌, arith}
 use Rattle.std.specs.Prelude.{◌||◌, option_map, find}
 use Rattle.std.specs.List.{list_any, position_or_len}
-use Rattle.std.proofs.lemmas.List.{length-map}
-use Rattle.pnp_model.specs.Keyed.{changed_first, without_first, put_before, those}
+use Rattle.pnp_model.specs.Keyed.{changed_first, without_first, those}
 
 -- two tests agree, before and after
 abbrev pub Agree : {A B : Type 0} → (A → B) → (A → Bool) → (B → Bool) → Type 0

@@ -1,6 +1,6 @@
 -- Rebalances and changes under other words.
 use Rattle.std.proofs.Common.{ℕ, ◌≡◌, Bool, true, false, not, List, [], ◌∷◌, length, map, Option, Some, None, refl, sym, ap, ap₂, ◌∙◌, if◌then◌else◌}
-use Rattle.std.specs.Prelude.{option_map, reverse, ◌==◌}
+use Rattle.std.specs.Prelude.{option_map, reverse}
 use mathlib.Core.Path.{fun_ext}
 use Rattle.resource_reqs.specs.Resources.{Res, Reqs}
 use Rattle.resource_reqs.specs.Spelling.Answer.{assignment, no_fit, spent}
@@ -9,9 +9,9 @@ use Rattle.pnp_labels.specs.declared.label.OpEnd.{OpEnd}
 use Rattle.pnp_labels.specs.declared.label.OpKind.{OpKind}
 use Rattle.pnp_labels.specs.declared.states.Problem.{Problem}
 use Rattle.pnp_labels.specs.declared.words.Minor.{Minor}
-use Rattle.pnp_model.specs.Cores.{core_of, node_at, serials_of, set_problem}
+use Rattle.pnp_model.specs.Cores.{core_of, node_at, serials_of}
 use Rattle.pnp_model.specs.Frames.{ended, rest}
-use Rattle.pnp_model.specs.Jobs.{Beside, JobMove, closes, each_gets, job_of, moves, stands}
+use Rattle.pnp_model.specs.Jobs.{Beside, JobMove, each_gets, job_of, moves, stands}
 use Rattle.pnp_model.specs.Keyed.{those}
 use Rattle.pnp_model.specs.Rebalances as rebalances
 use Rattle.pnp_model.specs.Rebalances.{ask_on, cancel_on, cancelled, committed, group_problem, has_refused, is_asked, is_not_above, movers, others, plan_of, reqs_after, reqs_of, reqs_or, restart_on, startable, stop_on, target_reqs}
@@ -24,7 +24,7 @@ use Rattle.pnp_pairs.specs.Renamed as renamed
 use Rattle.pnp_pairs.specs.Renamed.{Renaming}
 use Rattle.pnp_pairs.proofs.Asks.{changed_same, ended_same}
 use Rattle.pnp_pairs.proofs.Jobs.{beside, each_same, either_job, job_move}
-use Rattle.pnp_pairs.proofs.Maps.{map_map, those_map}
+use Rattle.pnp_pairs.proofs.Maps.{those_map}
 use Rattle.pnp_pairs.proofs.Trees.{above_same, at, fixed_same, serials_same, stands_same}
 
 module _ (r : Renaming) where

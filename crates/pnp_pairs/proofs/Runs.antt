@@ -1,11 +1,10 @@
 -- A run under other words is a run.
-use Rattle.std.proofs.Common.{ℕ, ◌≡◌, List, [], ◌∷◌, map, Option, Some, None, refl, sym, ap, ap₂, ◌∙◌, subst}
-use Rattle.std.specs.Prelude.{drop, option_map}
+use Rattle.std.proofs.Common.{◌≡◌, List, [], ◌∷◌, map, sym, ap, ◌∙◌, subst}
 use Rattle.pnp_labels.specs.Texts.{Text}
 use Rattle.pnp_labels.specs.declared.label.Label.{Label}
 use Rattle.pnp_model.specs.Cores.{node_at, path_of}
 use Rattle.pnp_model.specs.Machine.{IsDeclined}
-use Rattle.pnp_model.specs.Records.{Beginning, Core, Driver, Settings, State, Step}
+use Rattle.pnp_model.specs.Records.{Driver, Settings, State}
 use Rattle.pnp_model.specs.Runs.{Entry, Goes, Run, opening, root_path}
 use Rattle.pnp_model.specs.Runs.Entry.{Happens, Did, Declines}
 use Rattle.pnp_pairs.specs.Renamed as renamed
@@ -53,6 +52,7 @@ module _ (r : Renaming) where
     run_same old new (entry ∷ rest) (mid, goes, run) = (renamed.state r mid, goes_same old mid entry goes, run_same mid new rest run)
 
 pub renaming_renames : RenamingLaw
-renaming_renames r settings other rack entries s alike run =
-    (subst (λ (x : State). Run other x (map (renamed.entry r) entries) (renamed.state r s)) (opening_same r rack) (run_same r settings other alike (opening rack) s entries run),
-    quiet_same r settings other alike s)
+renaming_renames r settings other rack entries s alike run = (
+  subst (λ (x : State). Run other x (map (renamed.entry r) entries) (renamed.state r s)) (opening_same r rack) (run_same r settings other alike (opening rack) s entries run),
+  quiet_same r settings other alike s,
+)

@@ -1,5 +1,5 @@
 -- The start of a device under other words.
-use Rattle.std.proofs.Common.{ℕ, ◌≡◌, Bool, true, false, List, [], ◌∷◌, ◌++◌, length, Option, Some, None, refl, sym, ap, ap₂, ◌∙◌}
+use Rattle.std.proofs.Common.{ℕ, ◌≡◌, Bool, true, false, List, [], ◌∷◌, length, Some, refl, ap, ap₂, ◌∙◌}
 use mathlib.Core.Path.{fun_ext}
 use Rattle.resource_reqs.specs.Resources.{Res}
 use Rattle.resource_reqs.specs.Spelling.Answer.{assignment, no_fit, spent}
@@ -10,10 +10,10 @@ use Rattle.pnp_labels.specs.declared.words.Answer.{Answer}
 use Rattle.pnp_labels.specs.declared.words.Answer.TheVariants.{Ok, Fail, Pend}
 use Rattle.pnp_labels.specs.declared.words.AskWhat.{AskWhat}
 use Rattle.pnp_labels.specs.declared.words.Minor.{Minor}
-use Rattle.pnp_model.specs.Books.{name_of, rack_reply, rack_after}
+use Rattle.pnp_model.specs.Books.{rack_reply}
 use Rattle.pnp_model.specs.Cores.{set_rack, set_stack, stacked}
-use Rattle.pnp_model.specs.Frames.{Ask, asked, core_after, ended, state_label}
-use Rattle.pnp_model.specs.Records.{Core, Doing, Driver, Found, Node, Phase, SearchProblem, Walk, doing_map}
+use Rattle.pnp_model.specs.Frames.{core_after, state_label}
+use Rattle.pnp_model.specs.Records.{Core, Driver, Found, Node, Phase, SearchProblem, Walk, doing_map}
 use Rattle.pnp_model.specs.Records.Doing.{Does, Searches}
 use Rattle.pnp_model.specs.Records.Phase.{Adding, Searching, Starting, Removing, Due}
 use Rattle.pnp_model.specs.Starts as starts

@@ -1,8 +1,7 @@
 -- Tasks under other words: listing, the begin of a start, and the begin of an operation.
-use Rattle.std.proofs.Common.{ℕ, ◌+◌, ◌≡◌, Bool, true, false, not, List, [], ◌∷◌, ◌++◌, length, map, Option, Some, None, refl, sym, ap, ap₂, ◌∙◌, if◌then◌else◌}
+use Rattle.std.proofs.Common.{ℕ, ◌+◌, ◌≡◌, Bool, true, false, not, List, [], ◌∷◌, ◌++◌, length, map, Option, Some, None, refl, ap, ap₂, ◌∙◌}
 use Rattle.std.specs.Prelude.{option_map, find, nat_le, ◌==◌, ◌&&◌}
 use Rattle.std.specs.List.{list_any}
-use mathlib.Core.Path.{fun_ext}
 use Rattle.device_ids.specs.Folding.{same}
 use Rattle.resource_reqs.specs.Resources.{Reqs}
 use Rattle.pnp_labels.specs.Texts.{Text}
@@ -11,10 +10,9 @@ use Rattle.pnp_labels.specs.declared.label.OpKind.{OpKind}
 use Rattle.pnp_labels.specs.declared.states.DevState.{DevState}
 use Rattle.pnp_labels.specs.declared.states.DevState.TheVariants.{NoStack, NotStarted, Started, StopPending, Stopped, RemovePending, SurpriseRemoved}
 use Rattle.pnp_labels.specs.declared.states.Problem.{Problem}
-use Rattle.pnp_model.specs.Books.{driver_named, name_of}
-use Rattle.pnp_model.specs.Cores.{add_node, core_of, new_node, node_at, set_problem}
+use Rattle.pnp_model.specs.Books.{driver_named}
+use Rattle.pnp_model.specs.Cores.{core_of, new_node, set_problem}
 use Rattle.pnp_model.specs.Handles.{is_ready_device}
-use Rattle.pnp_model.specs.Keyed.{those}
 use Rattle.pnp_model.specs.Rebalances as rebalances
 use Rattle.pnp_model.specs.Records.{Activity, Choice, Core, Device, Duty, Job, Node, Settings, State, Step}
 use Rattle.pnp_model.specs.Removals as removals

@@ -1,5 +1,5 @@
 -- The tree under other paths: who depends on whom, who stands up, what is held and who leaves first is the same.
-use Rattle.std.proofs.Common.{ℕ, zero, suc, ◌≡◌, Bool, not, cond, List, [], ◌∷◌, ◌++◌, map, length, Option, Some, None, refl, sym, ap, ap₂, ◌∙◌}
+use Rattle.std.proofs.Common.{ℕ, zero, suc, ◌≡◌, Bool, not, List, [], ◌∷◌, ◌++◌, length, Option, Some, None, refl, ap, ap₂, ◌∙◌}
 use Rattle.std.specs.Prelude.{◌==◌, ◌&&◌, option_map, nat_le, if◌then◌else◌}
 use Rattle.std.specs.List.{list_any, list_all}
 use mathlib.Core.Path.{fun_ext}

@@ -1,5 +1,5 @@
 -- Other paths, identifiers and names of drivers: what each thing of the machine is under them.
-use Rattle.std.specs.Prelude.{◌≡◌, Bool, List, [], Option, map, option_map}
+use Rattle.std.specs.Prelude.{◌≡◌, List, [], map, option_map}
 use Rattle.device_ids.specs.Folding.{same}
 use Rattle.pnp_labels.specs.Texts.{Text}
 use Rattle.pnp_labels.specs.declared.deed.Deed.{Deed}
