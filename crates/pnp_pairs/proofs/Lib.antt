@@ -8,4 +8,6 @@ mod Removals
 mod Tasks
 mod Machine
 mod Events
+mod OneRun
 pub mod Runs
+pub mod Endings

@@ -1,6 +1,7 @@
 -- A run under other words is a run.
-use Rattle.std.proofs.Common.{◌≡◌, List, [], ◌∷◌, map, sym, ap, ◌∙◌, subst}
+use Rattle.std.proofs.Common.{◌≡◌, List, [], ◌∷◌, map, sym, ap, ◌∙◌, subst, refl}
 use Rattle.pnp_labels.specs.Texts.{Text}
+use Rattle.pnp_labels.specs.declared.event.Event.{Event}
 use Rattle.pnp_labels.specs.declared.label.Label.{Label}
 use Rattle.pnp_model.specs.Cores.{node_at, path_of}
 use Rattle.pnp_model.specs.Machine.{IsDeclined}
@@ -9,10 +10,11 @@ use Rattle.pnp_model.specs.Runs.{Entry, Goes, Run, opening, root_path}
 use Rattle.pnp_model.specs.Runs.Entry.{Happens, Did, Declines}
 use Rattle.pnp_pairs.specs.Renamed as renamed
 use Rattle.pnp_pairs.specs.Renamed.{Renaming}
-use Rattle.pnp_pairs.specs.Renaming.{ChooseAlike, RenamingLaw}
+use Rattle.pnp_pairs.specs.Renaming.{ChooseAlike, NoneDeclined, OnlyRenamingLaw, RenamingLaw, happened}
 use Rattle.pnp_pairs.proofs.Events.{happens_same}
 use Rattle.pnp_pairs.proofs.Jobs.{path_same}
 use Rattle.pnp_pairs.proofs.Machine.{due_same, quiet_same, steps_same}
+use Rattle.pnp_pairs.proofs.OneRun.{one_run}
 use Rattle.pnp_pairs.proofs.Trees.{at}
 
 -- the same at a root of this path
@@ -56,3 +58,22 @@ renaming_renames r settings other rack entries s alike run = (
   subst (λ (x : State). Run other x (map (renamed.entry r) entries) (renamed.state r s)) (opening_same r rack) (run_same r settings other alike (opening rack) s entries run),
   quiet_same r settings other alike s,
 )
+
+-- the events of renamed entries
+happened_same : (r : Renaming) (entries : List Entry) → happened (map (renamed.entry r) entries) ≡ map (renamed.event r) (happened entries)
+happened_same r [] = refl
+happened_same r (Happens event label ∷ rest) = ap (λ (t : List Event). renamed.event r event ∷ t) (happened_same r rest)
+happened_same r (Did label ∷ rest) = happened_same r rest
+happened_same r (Declines label ∷ rest) = happened_same r rest
+
+none_declined : (r : Renaming) (entries : List Entry) → NoneDeclined entries → NoneDeclined (map (renamed.entry r) entries)
+none_declined r [] none = tt
+none_declined r (Happens event label ∷ rest) none = none_declined r rest none
+none_declined r (Did label ∷ rest) none = none_declined r rest none
+none_declined r (Declines label ∷ rest) none = absurd none
+
+pub only_renaming : OnlyRenamingLaw
+only_renaming r settings other rack one two s t alike run other_run none free quiet rests e =
+    let (renamed_run, renamed_quiet) = renaming_renames r settings other rack one s alike run in
+    one_run other (opening (renamed.rack r rack)) (map (renamed.entry r) one) two (renamed.state r s) t renamed_run other_run (none_declined r one none) free (renamed_quiet quiet) rests
+    (e ∙ sym (happened_same r one))
