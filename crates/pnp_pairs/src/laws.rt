@@ -3,9 +3,19 @@
 ghost use Rattle.pnp_pairs.specs.Renaming.{OnlyRenamingLaw, RenamedEndLaw, RenamingLaw};
 
 /// Renaming: where paths, identifiers and names of drivers are others, one to one, in what happens and in drivers and INFs, the machine
-/// does and prints the same with the new words, and nothing else. The end of the output has the same rows in the same order.
+/// does and prints the same with the new words.
 pub fn renaming_renames()
-    ensures run { RenamingLaw }
-    ensures only { OnlyRenamingLaw }
-    ensures ending { RenamedEndLaw }
+    ensures { RenamingLaw }
+{}
+
+/// And it does nothing else: two runs in which the same happened but for the words, and which have both come to rest, are one but for
+/// the words.
+pub fn renaming_only_renames()
+    ensures { OnlyRenamingLaw }
+{}
+
+/// The end of the output has the same rows in the same order: the tree the renamed nodes, the map the same resources and owners, and
+/// the same requests wait.
+pub fn renamed_ends_alike()
+    ensures { RenamedEndLaw }
 {}
