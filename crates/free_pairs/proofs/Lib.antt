@@ -1,4 +1,0 @@
-mod Twins
-mod Fronts
-mod Frees
-pub mod Laws

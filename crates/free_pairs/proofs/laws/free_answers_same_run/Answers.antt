@@ -1,5 +1,0 @@
-use Rattle.free_pairs.proofs.Laws.{free_answers}
-use Rattle.free_pairs.proofs.laws.free_answers_same_run.Goals as goal
-
-pub returns : goal.returns
-returns c = free_answers

@@ -1,5 +1,0 @@
-use Rattle.free_pairs.proofs.Laws.{same_answers}
-use Rattle.free_pairs.proofs.laws.same_answers_same_run.Goals as goal
-
-pub returns : goal.returns
-returns c = same_answers

@@ -1,5 +1,0 @@
-use Rattle.free_pairs.proofs.Laws.{same_lines}
-use Rattle.free_pairs.proofs.laws.same_lines_same_state.Goals as goal
-
-pub returns : goal.returns
-returns c = same_lines
