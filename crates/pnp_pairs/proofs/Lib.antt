@@ -11,3 +11,4 @@ mod Events
 mod OneRun
 pub mod Runs
 pub mod Endings
+pub mod Struck

@@ -1,6 +1,7 @@
 //! What holds of two runs of the device machine.
 
 ghost use Rattle.pnp_pairs.specs.Renaming.{OnlyRenamingLaw, RenamedEndLaw, RenamingLaw};
+ghost use Rattle.pnp_pairs.specs.Struck.{OnlyStrikingLaw, StrikingLaw};
 
 /// Renaming: where paths, identifiers and names of drivers are others, one to one, in what happens and in drivers and INFs, the machine
 /// does and prints the same with the new words.
@@ -18,4 +19,14 @@ pub fn renaming_only_renames()
 /// the same requests wait.
 pub fn renamed_ends_alike()
     ensures { RenamedEndLaw }
+{}
+
+/// What is refused leaves no trace: without the events that were refused each run is a run, to the same state.
+pub fn refused_leaves_no_trace()
+    ensures { StrikingLaw }
+{}
+
+/// And where they are struck out of what happens, nothing else is done or printed.
+pub fn struck_runs_do_the_rest()
+    ensures { OnlyStrikingLaw }
 {}
