@@ -10,7 +10,7 @@ use Rattle.pnp_model.specs.Records.{Job, Node, State}
 use Rattle.pnp_model.specs.Trees.{children}
 use Rattle.pnp_pairs.specs.Renamed as renamed
 use Rattle.pnp_pairs.specs.Renamed.{Renaming}
-use Rattle.pnp_pairs.specs.Renaming.{EndsAlike, RenamedEndLaw, unnamed}
+use Rattle.pnp_pairs.specs.Renaming.{EndsAlike, RenamedEndsAlikeLaw, unnamed}
 use Rattle.pnp_pairs.proofs.Maps.{choose_map, count_map, map_map}
 use Rattle.pnp_pairs.proofs.Trees.{at, children_same}
 
@@ -82,5 +82,5 @@ module _ (r : Renaming) where
         waits = ap (λ (rows : List Outstanding). in_order serial_before (rows ++ activity_rows s.activities)) (operation_same s.operation);
       }
 
-pub renamed_end : RenamedEndLaw
+pub renamed_end : RenamedEndsAlikeLaw
 renamed_end r s = ends_same r s

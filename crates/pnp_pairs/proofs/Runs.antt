@@ -10,7 +10,7 @@ use Rattle.pnp_model.specs.Runs.{Entry, Goes, Run, opening, root_path}
 use Rattle.pnp_model.specs.Runs.Entry.{Happens, Did, Declines}
 use Rattle.pnp_pairs.specs.Renamed as renamed
 use Rattle.pnp_pairs.specs.Renamed.{Renaming}
-use Rattle.pnp_pairs.specs.Renaming.{ChooseAlike, NoneDeclined, OnlyRenamingLaw, RenamingLaw, happened}
+use Rattle.pnp_pairs.specs.Renaming.{ChooseAlike, NoneDeclined, RenamingOnlyRenamesLaw, RenamingRenamesLaw, happened}
 use Rattle.pnp_pairs.proofs.Events.{happens_same}
 use Rattle.pnp_pairs.proofs.Jobs.{path_same}
 use Rattle.pnp_pairs.proofs.Machine.{due_same, quiet_same, steps_same}
@@ -53,7 +53,7 @@ module _ (r : Renaming) where
     run_same old new [] h = ap (renamed.state r) h
     run_same old new (entry ∷ rest) (mid, goes, run) = (renamed.state r mid, goes_same old mid entry goes, run_same mid new rest run)
 
-pub renaming_renames : RenamingLaw
+pub renaming_renames : RenamingRenamesLaw
 renaming_renames r settings other rack entries s alike run = (
   subst (λ (x : State). Run other x (map (renamed.entry r) entries) (renamed.state r s)) (opening_same r rack) (run_same r settings other alike (opening rack) s entries run),
   quiet_same r settings other alike s,
@@ -72,7 +72,7 @@ none_declined r (Happens event label ∷ rest) none = none_declined r rest none
 none_declined r (Did label ∷ rest) none = none_declined r rest none
 none_declined r (Declines label ∷ rest) none = absurd none
 
-pub only_renaming : OnlyRenamingLaw
+pub only_renaming : RenamingOnlyRenamesLaw
 only_renaming r settings other rack one two s t alike run other_run none free quiet rests e =
     let (renamed_run, renamed_quiet) = renaming_renames r settings other rack one s alike run in
     one_run other (opening (renamed.rack r rack)) (map (renamed.entry r) one) two (renamed.state r s) t renamed_run other_run (none_declined r one none) free (renamed_quiet quiet) rests

@@ -26,7 +26,7 @@ use Rattle.pnp_model.specs.Trees.{dependents}
 use Rattle.pnp_model.specs.Windows.{is_window_on}
 use Rattle.pnp_model.proofs.Guards.{by_found, by_test}
 use Rattle.pnp_pairs.specs.Renaming.{NoneDeclined}
-use Rattle.pnp_pairs.specs.Struck.{OnlyStrikingLaw, StrikingLaw, is_refused, struck}
+use Rattle.pnp_pairs.specs.Struck.{StruckRunsDoTheRestLaw, RefusedLeavesNoTraceLaw, is_refused, struck}
 use Rattle.pnp_pairs.proofs.OneRun.{one_run}
 
 -- where it is refused, the state stays
@@ -111,9 +111,9 @@ none_declined (Happens event label ∷ rest) none = by_label (is_refused label) 
 none_declined (Did label ∷ rest) none = none_declined rest none
 none_declined (Declines label ∷ rest) none = absurd none
 
-pub refused_leaves_no_trace : StrikingLaw
+pub refused_leaves_no_trace : RefusedLeavesNoTraceLaw
 refused_leaves_no_trace settings rack entries s run = striking settings (opening rack) s entries run
 
-pub only_striking : OnlyStrikingLaw
+pub only_striking : StruckRunsDoTheRestLaw
 only_striking settings rack one two s t run other none free quiet rests e =
     one_run settings (opening rack) (struck one) two s t (striking settings (opening rack) s one run) other (none_declined one none) free quiet rests e

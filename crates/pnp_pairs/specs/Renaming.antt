@@ -18,8 +18,8 @@ pub record ChooseAlike (r : Renaming) (settings other : Settings) : Type 0 where
 
 -- Where all that happens is renamed, and the drivers and INFs are, the machine does and prints the same with the new words, is in the
 -- renamed state, and rests where it did.
-abbrev pub RenamingLaw : Type 0
-RenamingLaw =
+abbrev pub RenamingRenamesLaw : Type 0
+RenamingRenamesLaw =
     (r : Renaming) (settings other : Settings) (rack : List Driver) (entries : List Entry) (s : State) → ChooseAlike r settings other
     → Reaches settings rack entries s
     → Reaches other (renamed.rack r rack) (map (renamed.entry r) entries) (renamed.state r s) × (IsQuiet settings s → IsQuiet other (renamed.state r s))
@@ -39,8 +39,8 @@ NoneDeclined (entry ∷ rest) = NoneDeclined rest
 
 -- And it does nothing else: where what happened is what happened in another run, renamed, and both have come to rest, all that was done
 -- and printed is what was done and printed there, renamed.
-abbrev pub OnlyRenamingLaw : Type 0
-OnlyRenamingLaw =
+abbrev pub RenamingOnlyRenamesLaw : Type 0
+RenamingOnlyRenamesLaw =
     (r : Renaming) (settings other : Settings) (rack : List Driver) (one two : List Entry) (s t : State) → ChooseAlike r settings other
     → Reaches settings rack one s → Reaches other (renamed.rack r rack) two t → NoneDeclined one → NoneDeclined two → IsQuiet settings s → IsQuiet other t
     → happened two ≡ map (renamed.event r) (happened one) → (two ≡ map (renamed.entry r) one) × (t ≡ renamed.state r s)
@@ -56,5 +56,5 @@ pub record EndsAlike (r : Renaming) (s : State) : Type 0 where
   pub rows : map unnamed (map_rows (renamed.core r s.core)) ≡ map unnamed (map_rows s.core)
   pub waits : outstanding (renamed.state r s) ≡ outstanding s
 
-abbrev pub RenamedEndLaw : Type 0
-RenamedEndLaw = (r : Renaming) (s : State) → EndsAlike r s
+abbrev pub RenamedEndsAlikeLaw : Type 0
+RenamedEndsAlikeLaw = (r : Renaming) (s : State) → EndsAlike r s

@@ -20,13 +20,13 @@ struck (Did label ∷ rest) = Did label ∷ struck rest
 struck (Declines label ∷ rest) = Declines label ∷ struck rest
 
 -- Without the events that were refused each run is a run, to the same state.
-abbrev pub StrikingLaw : Type 0
-StrikingLaw =
+abbrev pub RefusedLeavesNoTraceLaw : Type 0
+RefusedLeavesNoTraceLaw =
     (settings : Settings) (rack : List Driver) (entries : List Entry) (s : State) → Reaches settings rack entries s → Reaches settings rack (struck entries) s
 
 -- And it is the only one: where in two runs that have come to rest the same happened but for what the first refused, the other is the
 -- first without it, and both are in one state.
-abbrev pub OnlyStrikingLaw : Type 0
-OnlyStrikingLaw =
+abbrev pub StruckRunsDoTheRestLaw : Type 0
+StruckRunsDoTheRestLaw =
     (settings : Settings) (rack : List Driver) (one two : List Entry) (s t : State) → Reaches settings rack one s → Reaches settings rack two t
     → NoneDeclined one → NoneDeclined two → IsQuiet settings s → IsQuiet settings t → happened two ≡ happened (struck one) → (two ≡ struck one) × (t ≡ s)
