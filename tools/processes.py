@@ -65,7 +65,8 @@ def start(words, **how):
     """Starts a program in a group of its own; an OSError where it cannot be started."""
     global is_starting
     is_main = threading.current_thread() is threading.main_thread()
-    is_starting = is_starting or is_main
+    if is_main:
+        is_starting = True
     try:
         with alive_lock:
             if is_stopping.is_set():
@@ -73,21 +74,25 @@ def start(words, **how):
             process = subprocess.Popen(words, start_new_session=True, **how)
             alive.add(process)
     finally:
-        is_starting = is_starting and not is_main
+        if is_main:
+            is_starting = False
     if is_main and came:
         stop_now()
     return process
 
 
 def has_ended(process, seconds):
-    """Whether a process ends within so many seconds. It is not reaped, so its group cannot be another's."""
+    """Whether a process ends within so many seconds. It is not reaped here, so its group cannot be another's."""
     until = time.monotonic() + seconds
     pause = 0.0005
-    while process.returncode is None and os.waitid(os.P_PID, process.pid, os.WEXITED | os.WNOHANG | os.WNOWAIT) is None:
-        if time.monotonic() >= until:
-            return False
-        time.sleep(pause)
-        pause = min(2 * pause, 0.05)
+    try:
+        while process.returncode is None and os.waitid(os.P_PID, process.pid, os.WEXITED | os.WNOHANG | os.WNOWAIT) is None:
+            if time.monotonic() >= until:
+                return False
+            time.sleep(pause)
+            pause = min(2 * pause, 0.05)
+    except ChildProcessError:
+        pass  # another thread has reaped it since
     return True
 
 
