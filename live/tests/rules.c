@@ -168,12 +168,16 @@ static NTSTATUS query_stop(PDEVICE_OBJECT device, PIRP irp)
         IoSkipCurrentIrpStackLocation(irp);
         return succeed(device, irp);
     }
+    if (is("completed-after-skip")) {
+        IoSkipCurrentIrpStackLocation(irp);
+        return complete(irp, STATUS_UNSUCCESSFUL);
+    }
     if (is("location-not-set")) {
         irp->IoStatus.Status = STATUS_SUCCESS;
         return IoCallDriver(it->lower, irp);
     }
     if (is("called-wrong-device")) {
-        IoSkipCurrentIrpStackLocation(irp);
+        IoCopyCurrentIrpStackLocationToNext(irp);
         IoCallDriver(device, irp);
         return complete(irp, STATUS_UNSUCCESSFUL);
     }
