@@ -11,4 +11,6 @@ mod Events
 mod OneRun
 pub mod Runs
 pub mod Endings
+mod Places
+pub mod SameDrivers
 pub mod Struck

@@ -1,6 +1,7 @@
 //! What holds of two runs of the device machine.
 
 ghost use Rattle.pnp_pairs.specs.Renaming.{RenamingOnlyRenamesLaw, RenamedEndsAlikeLaw, RenamingRenamesLaw};
+ghost use Rattle.pnp_pairs.specs.SameDrivers.{IdsStayLaw, SameDeviceSameDriversLaw, SameIdsSameDriversLaw};
 ghost use Rattle.pnp_pairs.specs.Struck.{StruckRunsDoTheRestLaw, RefusedLeavesNoTraceLaw};
 
 /// Renaming: where paths, identifiers and names of drivers are others, one to one, in what happens and in drivers and INFs, the machine
@@ -29,4 +30,20 @@ pub fn refused_leaves_no_trace()
 /// And where they are struck out of what happens, nothing else is done or printed.
 pub fn struck_runs_do_the_rest()
     ensures { StruckRunsDoTheRestLaw }
+{}
+
+/// Two devices with the same IDs get the same drivers: two `install` lines of a run tell the same rank and the same driver, and the same
+/// drivers are added in the same order, whatever happened in between.
+pub fn same_ids_same_drivers()
+    ensures { SameIdsSameDriversLaw }
+{}
+
+/// A device has one path and the same IDs for good, also where it left the tree and joined anew.
+pub fn ids_stay()
+    ensures { IdsStayLaw }
+{}
+
+/// So the same device gets the same drivers each time, as where it was disabled and is enabled.
+pub fn same_device_same_drivers()
+    ensures { SameDeviceSameDriversLaw }
 {}
