@@ -13,4 +13,5 @@ pub mod Runs
 pub mod Endings
 mod Places
 pub mod SameDrivers
+pub mod OwnSets
 pub mod Struck

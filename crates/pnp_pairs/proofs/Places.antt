@@ -122,10 +122,10 @@ name_event s name kind label t h is service k at = by_test (is_some (find (is_na
     by_test : (b : Bool) → is_some (find (is_named name) s.core.rack) ≡ b → driver_named service t.core.rack ≡ Some k
     by_test true e =
         let taken : happens s (Event.Name name kind) ≡ refused EventWord.Name Reason.SameName s =
-            ap (λ (b : Bool). if b then refused EventWord.Name Reason.SameName s
-                else if is_none (find (is_unnamed kind) s.core.rack) then refused EventWord.Name Reason.RackEmpty s
-                else did (Rattle.pnp_labels.specs.declared.deed.Deed.Deed.Named name)
-                    (Rattle.pnp_model.specs.States.with_core (Rattle.pnp_model.specs.Cores.set_rack (changed_first (is_unnamed kind) (with_name name) s.core.rack) s.core) s)) e in
+        ap (λ (b : Bool). if b then refused EventWord.Name Reason.SameName s
+        else if is_none (find (is_unnamed kind) s.core.rack) then refused EventWord.Name Reason.RackEmpty s
+        else did (Rattle.pnp_labels.specs.declared.deed.Deed.Deed.Named name)
+        (Rattle.pnp_model.specs.States.with_core (Rattle.pnp_model.specs.Cores.set_rack (changed_first (is_unnamed kind) (with_name name) s.core.rack) s.core) s)) e in
         let stays : s ≡ t = ap (λ (x : Step). x.state) (sym taken ∙ h) in
         subst (λ (x : State). driver_named service x.core.rack ≡ Some k) stays at
     by_test false e = subst (λ (rack : List Driver). driver_named service rack ≡ Some k) (sym is) (after_given kind name service s.core.rack k e at)

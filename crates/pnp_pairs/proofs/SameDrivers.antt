@@ -48,18 +48,18 @@ module _ (settings : Settings) (rack : List Driver) where
       let choice : b.choice ≡ a.choice = some_same (settings.best m.hw m.compat) b.choice a.choice b.best (ap₂ settings.best hw compat ∙ a.best) in
       let service : b.service ≡ a.service = some_same b.choice.service b.service a.service b.has_service (ap (λ (c : Choice). c.service) choice ∙ a.has_service) in
       let lower : b.lower ≡ a.lower =
-          some_same (numbered t.core.rack b.choice.lower) b.lower a.lower b.lower_are
-          (ap (λ (c : Choice). numbered t.core.rack c.lower) choice ∙ numbered_still s.core.rack t.core.rack finds a.choice.lower a.lower a.lower_are) in
+      some_same (numbered t.core.rack b.choice.lower) b.lower a.lower b.lower_are
+      (ap (λ (c : Choice). numbered t.core.rack c.lower) choice ∙ numbered_still s.core.rack t.core.rack finds a.choice.lower a.lower a.lower_are) in
       let upper : b.upper ≡ a.upper =
-          some_same (numbered t.core.rack b.choice.upper) b.upper a.upper b.upper_are
-          (ap (λ (c : Choice). numbered t.core.rack c.upper) choice ∙ numbered_still s.core.rack t.core.rack finds a.choice.upper a.upper a.upper_are) in
+      some_same (numbered t.core.rack b.choice.upper) b.upper a.upper b.upper_are
+      (ap (λ (c : Choice). numbered t.core.rack c.upper) choice ∙ numbered_still s.core.rack t.core.rack finds a.choice.upper a.upper a.upper_are) in
       let own : b.own ≡ a.own =
-          some_same (driver_named b.service t.core.rack) b.own a.own b.own_is
-          (ap (λ (x : Text). driver_named x t.core.rack) service ∙ finds.found a.service a.own a.own_is) in
+      some_same (driver_named b.service t.core.rack) b.own a.own b.own_is
+      (ap (λ (x : Text). driver_named x t.core.rack) service ∙ finds.found a.service a.own a.own_is) in
       let (text, has) = found_named a.service s.core.rack a.own a.own_is in
       let says : name_of t.core.rack a.own ≡ name_of s.core.rack a.own = ap printed_name (finds.names a.own text has) ∙ ap printed_name (sym has) in
       let drivers : b.lower ++ b.own ∷ b.upper ≡ a.lower ++ a.own ∷ a.upper =
-          ap (λ (x : List ℕ). x ++ b.own ∷ b.upper) lower ∙ ap (λ (x : List ℕ). a.lower ++ x) (ap₂ (λ (x : ℕ) (xs : List ℕ). x ∷ xs) own upper) in (
+      ap (λ (x : List ℕ). x ++ b.own ∷ b.upper) lower ∙ ap (λ (x : List ℕ). a.lower ++ x) (ap₂ (λ (x : ℕ) (xs : List ℕ). x ∷ xs) own upper) in (
         b.own_rank ∙ ap (λ (c : Choice). c.rank) choice ∙ sym a.own_rank,
         b.says ∙ ap (name_of t.core.rack) own ∙ says ∙ sym a.says,
         (a.lower ++ a.own ∷ a.upper, a.adds, subst (λ (ds : List ℕ). Adds t m ds t_after) drivers b.adds),
@@ -184,16 +184,18 @@ module _ (settings : Settings) (rack : List Driver) where
   have_ids s entry t reached (ids, all) goes = (
     with_said s.next_born (said_by entry) ids,
     all_goes (Has ids) (Has (with_said s.next_born (said_by entry) ids)) s entry t reached goes all
-    (λ b path hw compat old is. is ∙ said_other s.next_born (said_by entry) ids b old)
-    (λ d plug. said_same s.next_born (said_by entry) ids d.born (record { path = d.path; hw = d.hw; compat = d.compat }) plug.born (ap said_by plug.event)),
+        (λ b path hw compat old is. is ∙ said_other s.next_born (said_by entry) ids b old)
+        (λ d plug. said_same s.next_born (said_by entry) ids d.born (record { path = d.path; hw = d.hw; compat = d.compat }) plug.born (ap said_by plug.event)),
   )
 
   opening_ids : HaveIds (opening rack)
-  opening_ids =
-      (λ b. record { path = root_path; hw = []; compat = [] }, record {
-        nodes = λ k m at. ap (λ (x : Node). record { path = x.path; hw = x.hw; compat = x.compat }) (sym (root_is k m at).0);
-        world = λ d there. by_root d there;
-      })
+  opening_ids = (
+    λ b. record { path = root_path; hw = []; compat = [] },
+    record {
+      nodes = λ k m at. ap (λ (x : Node). record { path = x.path; hw = x.hw; compat = x.compat }) (sym (root_is k m at).0);
+      world = λ d there. by_root d there;
+    },
+  )
     where
       by_root : (d : Device) → In d (opening rack).world → record { path = d.path; hw = d.hw; compat = d.compat } ≡ (let root : Ids = record { path = root_path; hw = []; compat = [] } in root)
       by_root d (inl e) = ap (λ (x : Device). record { path = x.path; hw = x.hw; compat = x.compat }) (sym e)
@@ -234,8 +236,8 @@ pub ids_stay : IdsStayLaw
 ids_stay settings rack earlier later s t j k n m run on at now same =
     let (ids, all) = kept (HaveIds settings rack) settings rack (λ a entry b reached have goes. have_ids settings rack a entry b reached have goes) (opening_ids settings rack) s (earlier, run) in
     let keeps : Keeps settings rack n t =
-        kept_along (Keeps settings rack n) settings rack (λ a entry b reached have goes. keeps_goes settings rack n a entry b reached have goes) s later t (earlier, run)
-        ((reaches_born settings rack earlier s run).known j n at, had settings rack n ids j s at all) on in
+    kept_along (Keeps settings rack n) settings rack (λ a entry b reached have goes. keeps_goes settings rack n a entry b reached have goes) s later t (earlier, run)
+    ((reaches_born settings rack earlier s run).known j n at, had settings rack n ids j s at all) on in
     keeps.1.nodes k m now same
 
 pub same_device_same_drivers : SameDeviceSameDriversLaw

@@ -1,3 +1,4 @@
+pub mod OwnSets
 pub mod Renamed
 pub mod Renaming
 pub mod SameDrivers

@@ -1,5 +1,6 @@
 //! What holds of two runs of the device machine.
 
+ghost use Rattle.pnp_pairs.specs.OwnSets.{OperationsStayInTheirSetLaw};
 ghost use Rattle.pnp_pairs.specs.Renaming.{RenamingOnlyRenamesLaw, RenamedEndsAlikeLaw, RenamingRenamesLaw};
 ghost use Rattle.pnp_pairs.specs.SameDrivers.{IdsStayLaw, SameDeviceSameDriversLaw, SameIdsSameDriversLaw};
 ghost use Rattle.pnp_pairs.specs.Struck.{StruckRunsDoTheRestLaw, RefusedLeavesNoTraceLaw};
@@ -46,4 +47,10 @@ pub fn ids_stay()
 /// So the same device gets the same drivers each time, as where it was disabled and is enabled.
 pub fn same_device_same_drivers()
     ensures { SameDeviceSameDriversLaw }
+{}
+
+/// An operation stays in its set: from the begin of a disable, an eject or a surprise removal to its end each line names its device or one
+/// that depended on that, and nobody else changes, whatever happens in between.
+pub fn operations_stay_in_their_set()
+    ensures { OperationsStayInTheirSetLaw }
 {}
