@@ -1,5 +1,5 @@
 -- An operation stays in its set.
-use Rattle.std.proofs.Common.{ℕ, ◌≡◌, ◌≢◌, ◌⊎◌, ◌↔◌, inl, inr, Bool, true, false, List, [], ◌∷◌, Option, Some, None, refl, sym, ap, ◌∙◌, subst, if◌then◌else◌}
+use Rattle.std.proofs.Common.{ℕ, ◌≡◌, ◌≢◌, ◌⊎◌, ◌↔◌, inl, inr, Bool, true, false, List, [], ◌∷◌, Option, Some, refl, sym, ap, ◌∙◌, subst}
 use Rattle.pnp_labels.specs.Texts.{Text}
 use Rattle.pnp_labels.specs.declared.event.Event.{Event}
 use Rattle.pnp_labels.specs.declared.label.Label.{Label}
@@ -10,22 +10,20 @@ use Rattle.pnp_labels.specs.declared.words.Minor.{Minor}
 use Rattle.pnp_model.specs.Cores.{bare, is_node, node_at, stack_of, with_problem, with_state}
 use Rattle.pnp_model.specs.Events as ev
 use Rattle.pnp_model.specs.Frames.{ended, first_node, rest, state_label}
-use Rattle.pnp_model.specs.Jobs.{Beside, JobMove, each_gets, stands}
+use Rattle.pnp_model.specs.Jobs.{Beside, JobMove, stands}
 use Rattle.pnp_model.specs.Keyed.{changed_first, without_first}
 use Rattle.pnp_model.specs.Laws.{AllWithin, IsWithin}
 use Rattle.pnp_model.specs.Machine as ma
-use Rattle.pnp_model.specs.Records.{Core, Course, Driver, Job, Node, Settings, Stage, State, Step, Walk, course_of}
+use Rattle.pnp_model.specs.Records.{Core, Course, Job, Node, Settings, Stage, State, Step, Walk, course_of}
 use Rattle.pnp_model.specs.Removals as rm
 use Rattle.pnp_model.specs.Runs.{Entry, Goes, Run}
 use Rattle.pnp_model.specs.Runs.Entry.{Happens, Did, Declines}
 use Rattle.pnp_model.specs.States.{set_operation, unplug, with_core}
 use Rattle.pnp_model.specs.Surprises as su
 use Rattle.pnp_model.specs.Tests.{has}
-use Rattle.pnp_model.specs.Trees.{dependents}
 use Rattle.pnp_model.specs.Walks.{state_after}
-use Rattle.pnp_laws.specs.Effects.{OpEffect, OperationEffect, Turn, begun}
-use Rattle.pnp_laws.specs.Kept.{JobFits, OperationFits, RemovalAsks, RemovalKeeps, SurpriseKeeps, Within}
-use Rattle.pnp_laws.specs.Words.{IsBeside}
+use Rattle.pnp_laws.specs.Effects.{OpEffect, Turn, begun}
+use Rattle.pnp_laws.specs.Kept.{JobFits, OperationFits, RemovalAsks, Within}
 use Rattle.pnp_laws.proofs.EffectsOf.{effect_goes}
 use Rattle.pnp_laws.proofs.EffectsOfOperations.{begun_work}
 use Rattle.pnp_laws.proofs.EventChanges.{Answered, happens_outside}
@@ -34,9 +32,9 @@ use Rattle.pnp_laws.proofs.Lists.{head_found, head_has, member}
 use Rattle.pnp_laws.proofs.Lookups.{left_other, node_changed_other, some_same}
 use Rattle.pnp_laws.proofs.RebalanceRuns.{after_core}
 use Rattle.pnp_laws.proofs.RunsStand.{Kept, kept_goes, reaches_kept}
-use Rattle.pnp_laws.proofs.Stages.{Ends, OperationStep, RemovalAct, RemovalStep, SurpriseAct, SurpriseStep, asking, ended_by, held, operation_step, own_step}
+use Rattle.pnp_laws.proofs.Stages.{OperationStep, RemovalAct, RemovalStep, SurpriseAct, SurpriseStep, asking, ended_by, held, operation_step, own_step}
 use Rattle.pnp_laws.proofs.Turns.{running_good}
-use Rattle.pnp_promises.specs.Lines.{Begins, Takes}
+use Rattle.pnp_promises.specs.Lines.{Takes}
 use Rattle.pnp_promises.proofs.Lines.{lines_mean_what_they_say}
 use Rattle.pnp_pairs.specs.OwnSets.{IsInSet, NamesOneOf, OperationsStayInTheirSetLaw, TakesSet}
 

@@ -41,6 +41,5 @@ abbrev pub SameDeviceSameDriversLaw : Type 0
 SameDeviceSameDriversLaw =
     (settings : Settings) (rack : List Driver) (earlier between : List Entry) (s s_after t t_after : State) (n m : Node) (rank again : ℕ) (driver name : Text)
     → Reaches settings rack earlier s → Installs settings s n rank driver s_after
-    → Run settings s_after between t → Installs settings t m again name t_after
-    → m.born ≡ n.born
+    → Run settings s_after between t → Installs settings t m again name t_after → m.born ≡ n.born
     → (again ≡ rank) × (name ≡ driver) × ((drivers : List ℕ) × Adds s n drivers s_after × Adds t m drivers t_after)
