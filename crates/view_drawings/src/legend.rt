@@ -1,9 +1,8 @@
-ghost use Rattle.std.specs.Prelude.{◌≡◌, OnOk};
+ghost use Rattle.std.specs.Prelude.{◌≡◌, ◌∷◌, OnOk};
 
 use crate::bars::Bar;
 use crate::holding::Holding;
 use crate::scale::{number_text, owner_text};
-use crate::shapes::worded;
 use device_ids::WantOfMemory;
 use resource_reqs::Kind;
 use std::alloc::Global;
@@ -30,7 +29,7 @@ fn draw_change(page: &mut Page, bar: &Bar<'_>, is_moved: bool) -> Result<(), Wan
         return Ok(());
     }
     let change = if is_moved { bar.moved } else { b"kept" };
-    worded(page, Tag::Td, b"map-change", change)
+    page.element(Tag::Td, &[], change)
 }
 
 /// The cells of a row: who, the numbers, the path, and whether they are shared.
@@ -44,10 +43,22 @@ fn draw_cells(
     ensures marks { OnOk result (page.new.marks ≡ page.old.marks) }
 {
     let shared: &[u8] = if holding.res.shared { b"shared" } else { b"" };
-    worded(page, Tag::Td, b"map-who", who)?;
-    worded(page, Tag::Td, b"map-range", range)?;
-    worded(page, Tag::Td, b"map-owner", holding.words.bytes())?;
-    worded(page, Tag::Td, b"map-shared", shared)
+    page.element(Tag::Td, &[], who)?;
+    page.element(Tag::Td, &[], range)?;
+    page.element(Tag::Td, &[], holding.words.bytes())?;
+    page.element(Tag::Td, &[], shared)
+}
+
+/// Begins a row of the table.
+fn open_line(page: &mut Page, is_moved: bool) -> Result<(), WantOfMemory>
+    ensures elements { OnOk result (page.new.elements ≡ Tag.Tr ∷ page.old.elements) }
+    ensures marks { OnOk result (page.new.marks ≡ page.old.marks) }
+{
+    if is_moved {
+        page.open(Tag::Tr, &[(Attribute::Class, b"moved")])
+    } else {
+        page.open(Tag::Tr, &[])
+    }
 }
 
 /// A row of the table, with the words for who and for the numbers.
@@ -62,12 +73,7 @@ fn draw_line_with(
     ensures elements { OnOk result (page.new.elements ≡ page.old.elements) }
     ensures marks { OnOk result (page.new.marks ≡ page.old.marks) }
 {
-    let class: &[u8] = if is_moved {
-        b"map-line moved"
-    } else {
-        b"map-line"
-    };
-    page.open(Tag::Tr, &[(Attribute::Class, class)])?;
+    open_line(page, is_moved)?;
     draw_cells(page, who, range, holding)?;
     draw_change(page, bar, is_moved)?;
     page.close()

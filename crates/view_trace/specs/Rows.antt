@@ -1,8 +1,10 @@
 -- The marks of the rows of a run: the line of each label, and an arrow for each ask, in order.
-use Rattle.std.specs.Prelude.{Bool, true, false, List, [], ◌∷◌, ◌++◌, if◌then◌else◌}
+use Rattle.std.specs.Prelude.{Bool, true, false, List, [], ◌∷◌, ◌++◌, codes, if◌then◌else◌}
 use Rattle.pnp_labels.specs.Texts.{label_line}
 use Rattle.pnp_labels.specs.declared.label.Label.{Label}
 use Rattle.view_page.specs.Pages.{Mark}
+use Rattle.view_page.specs.Words.{Text}
+use Rattle.view_page.specs.declared.words.Attribute.{Attribute}
 use Rattle.view_page.specs.declared.words.Part.{Part}
 use Rattle.view_page.specs.declared.words.Tag.{Tag}
 
@@ -19,6 +21,11 @@ arrow_of label = if is_ask label then (Part.Arrow, label_line label) ∷ [] else
 -- its line, and its arrow
 abbrev pub row_of : Label → List Mark
 row_of label = (Part.Words Tag.Code, label_line label) ∷ arrow_of label
+
+-- the class of a line of an operation
+abbrev pub class_within : Bool → List (Attribute × Text)
+class_within true = (Attribute.Class, codes "within") ∷ []
+class_within false = []
 
 abbrev pub rows : List Label → List Mark
 rows [] = []

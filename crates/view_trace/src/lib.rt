@@ -4,11 +4,11 @@
 mod arrow;
 mod front;
 mod lanes;
+mod line;
 mod pends;
 mod question;
 mod rows;
 mod style;
-mod trouble;
 mod wrong;
 
 pub use front::{Stepping, begin, begin_plain};

@@ -54,7 +54,7 @@ path.violation{stroke:var(--violation)}\n\
 .refused code{color:var(--fail)}\n\
 .operation code{font-weight:700;color:var(--mark)}\n\
 .trouble code{color:var(--fail);font-weight:700}\n\
-.state code,.step code,.notice code{color:var(--soft)}\n\
+.grid li:not([class]) code,.notice code{color:var(--soft)}\n\
 .notice code{font-style:italic}\n\
 pre{overflow-x:auto;padding:.75rem;background:var(--band);border-radius:6px;margin:0}\n\
 summary{cursor:pointer}\n\
