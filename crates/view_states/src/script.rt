@@ -3,7 +3,7 @@
 
 /// What the browser may run and load: the script of this sum alone.
 pub const POLICY: &[u8] =
-    b"default-src 'none'; style-src 'unsafe-inline'; script-src 'sha256-68GCv83jxUlWFC+Alb/rBrVbYrm9u+/MlGX3mJFLCZo='";
+    b"default-src 'none'; style-src 'unsafe-inline'; script-src 'sha256-9nCG2mi23FYKtJZOE9hZUTWDzWmcoxOPdTU2ez18Kas='";
 
 /// The script. No character of it is escaped.
 pub fn script_text() -> &'static [u8] {
@@ -127,7 +127,7 @@ pub fn script_text() -> &'static [u8] {
   const back = made(`button`, { type: `button`, textContent: `\u25c0`, title: `The row before: left arrow; the event before: with shift` });
   const on = made(`button`, { type: `button`, textContent: `\u25b6`, title: `The next row: right arrow; the next event: with shift` });
   const title = made(`summary`, {});
-  const boxes = SECTIONS.map(function () { return { pre: made(`pre`, { tabIndex: 0 }), lines: [], parts: [], marked: [] }; });
+  const boxes = SECTIONS.map(function () { return { pre: made(`pre`, { tabIndex: 0 }), text: ``, lines: [], parts: [], marked: [] }; });
   const stepper = made(`section`, { className: `stepper` }, [
     made(`div`, { className: `stepper-row` }, [back, slider, on, search, device, driver, count]),
     made(`details`, { open: true }, [title, made(`div`, { className: `stepper-boxes` }, SECTIONS.map(function (name, at) {
@@ -195,7 +195,8 @@ pub fn script_text() -> &'static [u8] {
   // What a box shows behind a row, before which it was so.
   function draw(box, now, was) {
     for (const node of box.marked.splice(0)) node.textContent = node.textContent;
-    fill(box, now.split(`\n`).slice(0, -1));
+    if (now !== box.text) fill(box, now.split(`\n`).slice(0, -1));
+    box.text = now;
     if (now !== was) mark(box, was.split(`\n`).slice(0, -1));
     const first = box.pre.querySelector(`mark`);
     if (first) box.pre.scrollTop = first.offsetTop - box.pre.offsetTop - 32;
