@@ -4,6 +4,7 @@ use crate::names::DriverNames;
 use crate::shapes::{numbered, worded};
 use device_ids::WantOfMemory;
 use devnode_tree::{Node, PrintRow, Tree};
+use label_words::problem_words;
 use pnp_labels::{Problem, Stack, problem_text, res_text, state_text};
 use resource_reqs::ResList;
 use std::alloc::Global;
@@ -46,13 +47,15 @@ fn draw_number(alloc: Global, page: &mut Page, serial: u64) -> Result<(), WantOf
     page.element(Tag::Span, &[], &number)
 }
 
-/// Its problem.
+/// Its problem, in words too.
 fn draw_problem(alloc: Global, page: &mut Page, problem: Problem) -> Result<(), WantOfMemory>
     ensures elements { OnOk result (page.new.elements ≡ page.old.elements) }
     ensures marks { OnOk result (page.new.marks ≡ page.old.marks) }
 {
     let mut text = Vec::from_slice(alloc, b"problem ")?;
     text.extend_from_slice(problem_text(problem))?;
+    text.extend_from_slice(b": ")?;
+    text.extend_from_slice(problem_words(problem))?;
     worded(page, Tag::Span, b"tree-problem", &text)
 }
 

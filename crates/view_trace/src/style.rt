@@ -41,7 +41,7 @@ path.violation{stroke:var(--violation)}\n\
 .grid li{content-visibility:auto;contain-intrinsic-size:auto 1.5rem}\n\
 .grid .fold{display:block;content-visibility:visible;background:none}\n\
 .grid li::before{content:attr(value);flex:none;width:var(--number);padding-right:.5rem;text-align:right;color:var(--soft);font-size:.6875rem;background:var(--paper)}\n\
-.grid .fold::before{position:absolute;top:0;z-index:1}\n\
+.grid .fold::before{position:absolute;top:0;z-index:1;background:none}\n\
 .grid summary{list-style:none;padding-left:var(--number)}\n\
 .grid summary::before{content:counter(list-item,disclosure-closed);position:absolute;left:.375rem;z-index:1;color:var(--soft)}\n\
 .grid [open] summary::before{content:counter(list-item,disclosure-open)}\n\
