@@ -42,6 +42,7 @@ NTSTATUS IoCreateDevice(PDRIVER_OBJECT driver, ULONG extension_size, PUNICODE_ST
     struct shim_object *object = shim_memory(sizeof *object);
     (void)name, (void)exclusive;
     object->object.DeviceExtension = shim_memory(extension_size);
+    object->extension_size = extension_size;
     object->object.Size = (USHORT)sizeof object->object;
     object->object.DriverObject = driver;
     object->object.DeviceType = type;
@@ -81,6 +82,9 @@ VOID IoDeleteDevice(PDEVICE_OBJECT device)
             shim_broke("deleted-early");
         object->device->own = NULL;
     }
+    if (shim_forget_within(device->DeviceExtension, object->extension_size))
+        shim_broke("timer-left-set");
+    shim_forget_within(&object->dpc, sizeof object->dpc);
     unlink_from_driver(device);
     object->deleted = true;
 }

@@ -138,3 +138,10 @@ BOOLEAN KeSynchronizeExecution(PKINTERRUPT interrupt, PKSYNCHRONIZE_ROUTINE rout
     KeReleaseSpinLock(interrupt->lock, old);
     return answer;
 }
+KIRQL KeAcquireInterruptSpinLock(PKINTERRUPT interrupt)
+{
+    KIRQL old;
+    KeAcquireSpinLock(interrupt->lock, &old);
+    return old;
+}
+VOID KeReleaseInterruptSpinLock(PKINTERRUPT interrupt, KIRQL old) { KeReleaseSpinLock(interrupt->lock, old); }

@@ -15,6 +15,7 @@ struct shim_object {
     DEVICE_OBJECT object; /* first: a DEVICE_OBJECT of the shim is one of these */
     struct shim_device *device;
     PDEVICE_OBJECT below;
+    ULONG extension_size;
     bool deleted;
     KDPC dpc;
     PIO_DPC_ROUTINE dpc_routine;
@@ -65,6 +66,7 @@ extern struct shim_device *shim_now; /* whose driver is at work; NULL where that
 void *shim_memory(size_t size);      /* zeroes; ends the program where there is none */
 bool shim_run_work(bool due_only);   /* runs one piece of work, if there is one */
 void shim_forget_work(void *context);
+bool shim_forget_within(const void *memory, size_t size); /* the same of all whose context is there; whether there was one */
 void shim_work_of_poll(void);
 KIRQL shim_level(void);
 void shim_level_back(KIRQL level);

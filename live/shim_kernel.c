@@ -14,7 +14,7 @@ void *shim_memory(size_t size)
     return block;
 }
 
-#define MOST_AT_POLL 1000
+#define MOST_AT_POLL 1000 /* pieces of work at a poll, or while a routine waits */
 
 /* ---- work that runs later: a queue, of which each entry waits for so many polls */
 struct entry {
@@ -27,21 +27,23 @@ struct entry {
 static struct entry *queue;
 static bool is_polling;
 
-void shim_queue_work(shim_work *work, void *context)
+static void queue_for(int polls, shim_work *work, void *context)
 {
     struct entry *entry = shim_memory(sizeof *entry), **at = &queue;
     entry->work = work;
     entry->context = context;
-    entry->polls = shim_settings.hold - is_polling; /* what is queued at a poll counts that one */
+    entry->polls = polls;
     entry->device = shim_now;
     while (*at)
         at = &(*at)->next;
     *at = entry;
 }
-bool shim_run_work(bool due_only)
+void shim_queue_work(shim_work *work, void *context) { queue_for(shim_settings.hold - is_polling, work, context); } /* what is queued at a poll counts that one */
+/* Runs the first piece that is due, or of a kind, where these are asked for; whether there is one. */
+static bool run_first(bool due_only, shim_work *only)
 {
     for (struct entry **at = &queue; *at; at = &(*at)->next)
-        if (!due_only || (*at)->polls <= 0) {
+        if ((!due_only || (*at)->polls <= 0) && (!only || (*at)->work == only)) {
             struct entry *entry = *at;
             struct shim_device *before = shim_now;
             KIRQL old = shim_level();
@@ -55,6 +57,7 @@ bool shim_run_work(bool due_only)
         }
     return false;
 }
+bool shim_run_work(bool due_only) { return run_first(due_only, NULL); }
 void shim_forget_work(void *context)
 {
     for (struct entry **at = &queue; *at;)
@@ -65,6 +68,21 @@ void shim_forget_work(void *context)
         } else {
             at = &(*at)->next;
         }
+}
+bool shim_forget_within(const void *memory, size_t size)
+{
+    bool found = false;
+    for (struct entry **at = &queue; *at;) {
+        struct entry *entry = *at;
+        if ((uintptr_t)entry->context - (uintptr_t)memory < size) {
+            *at = entry->next;
+            free(entry);
+            found = true;
+        } else {
+            at = &entry->next;
+        }
+    }
+    return found;
 }
 /* Runs what is due at a poll: so many pieces at most, since a timer may set itself again and again. */
 void shim_work_of_poll(void)
@@ -150,13 +168,20 @@ LONG KeReleaseSemaphore(PKSEMAPHORE semaphore, KPRIORITY increment, LONG adjustm
         semaphore->Header.SignalState = was + adjustment;
     return was;
 }
+static void take(DISPATCHER_HEADER *header)
+{
+    if (header->Type == AUTO_RESET)
+        header->SignalState = 0;
+    else if (header->Type == COUNTS)
+        header->SignalState--;
+}
 NTSTATUS KeWaitForSingleObject(PVOID object, KWAIT_REASON reason, KPROCESSOR_MODE mode, BOOLEAN alertable, PLARGE_INTEGER timeout)
 {
     DISPATCHER_HEADER *header = object;
     (void)reason, (void)mode, (void)alertable;
     if (level >= DISPATCH_LEVEL && !(timeout && timeout->QuadPart == 0))
         shim_broke("waits-at-dispatch");
-    while (header->SignalState <= 0 && !(timeout && timeout->QuadPart == 0) && shim_run_work(false))
+    for (int i = 0; header->SignalState <= 0 && !(timeout && timeout->QuadPart == 0) && i < MOST_AT_POLL && shim_run_work(false); i++)
         ;
     if (header->SignalState <= 0) {
         if (timeout)
@@ -164,11 +189,40 @@ NTSTATUS KeWaitForSingleObject(PVOID object, KWAIT_REASON reason, KPROCESSOR_MOD
         shim_broke("waits-for-ever");
         return STATUS_UNSUCCESSFUL;
     }
-    if (header->Type == AUTO_RESET)
-        header->SignalState = 0;
-    else if (header->Type == COUNTS)
-        header->SignalState--;
+    take(header);
     return STATUS_SUCCESS;
+}
+/* How many of the objects are set, and the first that is. */
+static ULONG count_set(ULONG count, PVOID objects[], ULONG *first)
+{
+    ULONG set = 0;
+    for (ULONG i = count; i-- > 0;)
+        if (((DISPATCHER_HEADER *)objects[i])->SignalState > 0) {
+            *first = i;
+            set++;
+        }
+    return set;
+}
+NTSTATUS KeWaitForMultipleObjects(ULONG count, PVOID objects[], WAIT_TYPE type, KWAIT_REASON reason, KPROCESSOR_MODE mode, BOOLEAN alertable, PLARGE_INTEGER timeout, PKWAIT_BLOCK blocks)
+{
+    ULONG wanted = type == WaitAny ? 1 : count, first = 0;
+    bool waits = !(timeout && timeout->QuadPart == 0);
+    (void)reason, (void)mode, (void)alertable, (void)blocks;
+    if (level >= DISPATCH_LEVEL && waits)
+        shim_broke("waits-at-dispatch");
+    for (int i = 0; count_set(count, objects, &first) < wanted && waits && i < MOST_AT_POLL && shim_run_work(false); i++)
+        ;
+    if (count_set(count, objects, &first) < wanted) {
+        if (timeout)
+            return STATUS_TIMEOUT;
+        shim_broke("waits-for-ever");
+        return STATUS_UNSUCCESSFUL;
+    }
+    for (ULONG i = 0; i < count && type == WaitAll; i++)
+        take(objects[i]);
+    if (type == WaitAny)
+        take(objects[first]);
+    return STATUS_WAIT_0 + (type == WaitAny ? (NTSTATUS)first : 0);
 }
 NTSTATUS KeDelayExecutionThread(KPROCESSOR_MODE mode, BOOLEAN alertable, PLARGE_INTEGER interval)
 {
@@ -221,6 +275,8 @@ static void run_timer(void *context)
 {
     PKTIMER timer = context;
     timer->Header.SignalState = 1;
+    if (timer->Period)
+        queue_for(shim_settings.hold, run_timer, timer);
     if (timer->Dpc)
         run_dpc(timer->Dpc);
 }
@@ -236,12 +292,20 @@ BOOLEAN KeCancelTimer(PKTIMER timer)
     shim_forget_work(timer);
     return was;
 }
-BOOLEAN KeSetTimer(PKTIMER timer, LARGE_INTEGER due, PKDPC dpc)
+BOOLEAN KeReadStateTimer(PKTIMER timer) { return timer->Header.SignalState > 0; }
+VOID KeFlushQueuedDpcs(VOID)
+{
+    for (int i = 0; i < MOST_AT_POLL && run_first(false, run_dpc); i++)
+        ;
+}
+BOOLEAN KeSetTimer(PKTIMER timer, LARGE_INTEGER due, PKDPC dpc) { return KeSetTimerEx(timer, due, 0, dpc); }
+BOOLEAN KeSetTimerEx(PKTIMER timer, LARGE_INTEGER due, LONG period, PKDPC dpc)
 {
     BOOLEAN was = KeCancelTimer(timer);
     (void)due;
     timer->Header.SignalState = 0;
     timer->Dpc = dpc;
+    timer->Period = period;
     shim_queue_work(run_timer, timer);
     return was;
 }
@@ -270,6 +334,12 @@ VOID KeReleaseSpinLock(PKSPIN_LOCK lock, KIRQL old)
     KeReleaseSpinLockFromDpcLevel(lock);
     KeLowerIrql(old);
 }
+VOID KeAcquireInStackQueuedSpinLock(PKSPIN_LOCK lock, PKLOCK_QUEUE_HANDLE handle)
+{
+    handle->Lock = lock;
+    KeAcquireSpinLock(lock, &handle->OldIrql);
+}
+VOID KeReleaseInStackQueuedSpinLock(PKLOCK_QUEUE_HANDLE handle) { KeReleaseSpinLock(handle->Lock, handle->OldIrql); }
 VOID ExInitializeFastMutex(PFAST_MUTEX mutex) { memset(mutex, 0, sizeof *mutex); }
 VOID ExAcquireFastMutex(PFAST_MUTEX mutex)
 {
@@ -341,6 +411,15 @@ PVOID InterlockedExchangePointer(PVOID volatile *place, PVOID value)
     *place = value;
     return was;
 }
+PVOID InterlockedCompareExchangePointer(PVOID volatile *place, PVOID value, PVOID wanted)
+{
+    PVOID was = *place;
+    if (was == wanted)
+        *place = value;
+    return was;
+}
+LONG InterlockedOr(volatile LONG *number, LONG bits) { return InterlockedExchange(number, *number | bits); }
+LONG InterlockedAnd(volatile LONG *number, LONG bits) { return InterlockedExchange(number, *number & bits); }
 
 /* ---- lists */
 VOID InitializeListHead(PLIST_ENTRY head) { head->Flink = head->Blink = head; }
@@ -371,6 +450,25 @@ PLIST_ENTRY RemoveTailList(PLIST_ENTRY head)
     RemoveEntryList(entry);
     return entry;
 }
+PLIST_ENTRY ExInterlockedInsertHeadList(PLIST_ENTRY head, PLIST_ENTRY entry, PKSPIN_LOCK lock)
+{
+    PLIST_ENTRY was = IsListEmpty(head) ? NULL : head->Flink;
+    (void)lock;
+    InsertHeadList(head, entry);
+    return was;
+}
+PLIST_ENTRY ExInterlockedInsertTailList(PLIST_ENTRY head, PLIST_ENTRY entry, PKSPIN_LOCK lock)
+{
+    PLIST_ENTRY was = IsListEmpty(head) ? NULL : head->Blink;
+    (void)lock;
+    InsertTailList(head, entry);
+    return was;
+}
+PLIST_ENTRY ExInterlockedRemoveHeadList(PLIST_ENTRY head, PKSPIN_LOCK lock)
+{
+    (void)lock;
+    return IsListEmpty(head) ? NULL : RemoveHeadList(head);
+}
 
 /* ---- memory */
 PVOID ExAllocatePool(POOL_TYPE type, SIZE_T size)
@@ -396,6 +494,11 @@ VOID ExFreePoolWithTag(PVOID block, ULONG tag)
 {
     (void)tag;
     free(block);
+}
+VOID ExInitializeNPagedLookasideList(PNPAGED_LOOKASIDE_LIST list, PVOID allocate, PVOID free_routine, ULONG flags, SIZE_T size, ULONG tag, USHORT depth)
+{
+    (void)allocate, (void)free_routine, (void)flags, (void)depth;
+    *list = (NPAGED_LOOKASIDE_LIST){NonPagedPool, size, tag};
 }
 SIZE_T RtlCompareMemory(const VOID *one, const VOID *other, SIZE_T size)
 {

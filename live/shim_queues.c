@@ -1,7 +1,7 @@
 /* Queues in which a driver keeps requests, and the deferred call of a device. */
 #include "shim_inside.h"
 
-/* ---- a cancel never comes */
+/* ---- a cancel never comes, but for the driver's own */
 static KSPIN_LOCK cancel_lock;
 PDRIVER_CANCEL IoSetCancelRoutine(PIRP irp, PDRIVER_CANCEL routine)
 {
@@ -11,6 +11,18 @@ PDRIVER_CANCEL IoSetCancelRoutine(PIRP irp, PDRIVER_CANCEL routine)
 }
 VOID IoAcquireCancelSpinLock(PKIRQL old) { KeAcquireSpinLock(&cancel_lock, old); }
 VOID IoReleaseCancelSpinLock(KIRQL old) { KeReleaseSpinLock(&cancel_lock, old); }
+BOOLEAN IoCancelIrp(PIRP irp)
+{
+    PDRIVER_CANCEL routine;
+    IoAcquireCancelSpinLock(&irp->CancelIrql);
+    irp->Cancel = TRUE;
+    routine = IoSetCancelRoutine(irp, NULL);
+    if (routine)
+        routine(irp->Tail.Overlay.CurrentStackLocation->DeviceObject, irp); /* which releases the lock */
+    else
+        IoReleaseCancelSpinLock(irp->CancelIrql);
+    return routine != NULL;
+}
 
 /* ---- the deferred call of a device */
 static VOID run_device_dpc(PKDPC dpc, PVOID context, PVOID first, PVOID second)

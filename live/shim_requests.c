@@ -288,6 +288,8 @@ VOID IoCompleteRequest(PIRP irp, CCHAR boost)
         shim_broke("completed-twice");
         return;
     }
+    if (is_skipped(irp))
+        shim_broke("completed-after-skip");
     if (request->from_above && lower_works(request)) {
         shim_broke("completed-before-lower");
         request->lower_done = true;

@@ -3,6 +3,7 @@
 #include <stdarg.h>
 #include <stdio.h>
 #include <stdlib.h>
+#include <wctype.h>
 
 /* ---- power: there is one state, and a request that a driver wants sent is sent to the top of its stack by a piece of work */
 NTSTATUS PoCallDriver(PDEVICE_OBJECT device, PIRP irp) { return IoCallDriver(device, irp); }
@@ -112,9 +113,55 @@ NTSTATUS IoGetDeviceProperty(PDEVICE_OBJECT pdo, DEVICE_REGISTRY_PROPERTY proper
     *needed = 0;
     return STATUS_OBJECT_NAME_NOT_FOUND;
 }
+NTSTATUS ZwOpenKey(PHANDLE key, ACCESS_MASK access, POBJECT_ATTRIBUTES attributes)
+{
+    (void)access, (void)attributes;
+    *key = NULL;
+    return STATUS_OBJECT_NAME_NOT_FOUND;
+}
+NTSTATUS ZwQueryValueKey(HANDLE key, PUNICODE_STRING name, KEY_VALUE_INFORMATION_CLASS kind, PVOID buffer, ULONG length, PULONG needed)
+{
+    (void)key, (void)name, (void)kind, (void)buffer, (void)length;
+    *needed = 0;
+    return STATUS_OBJECT_NAME_NOT_FOUND;
+}
+NTSTATUS ZwSetValueKey(HANDLE key, PUNICODE_STRING name, ULONG index, ULONG type, PVOID data, ULONG size)
+{
+    (void)key, (void)name, (void)index, (void)type, (void)data, (void)size;
+    return STATUS_SUCCESS;
+}
 NTSTATUS ZwClose(HANDLE handle)
 {
     (void)handle;
+    return STATUS_SUCCESS;
+}
+
+/* ---- what a driver keeps at its driver object */
+struct kept {
+    PVOID id;
+    struct kept *next;
+    LONGLONG room[]; /* of the driver */
+};
+static struct kept *all_kept;
+PVOID IoGetDriverObjectExtension(PDRIVER_OBJECT driver, PVOID id)
+{
+    (void)driver;
+    for (struct kept *one = all_kept; one; one = one->next)
+        if (one->id == id)
+            return one->room;
+    return NULL;
+}
+NTSTATUS IoAllocateDriverObjectExtension(PDRIVER_OBJECT driver, PVOID id, ULONG size, PVOID *extension)
+{
+    struct kept *one;
+    *extension = NULL;
+    if (IoGetDriverObjectExtension(driver, id))
+        return STATUS_OBJECT_NAME_COLLISION;
+    one = shim_memory(sizeof *one + size);
+    one->id = id;
+    one->next = all_kept;
+    all_kept = one;
+    *extension = one->room;
     return STATUS_SUCCESS;
 }
 
@@ -136,6 +183,8 @@ VOID KeQuerySystemTime(PLARGE_INTEGER time)
     static LONGLONG now;
     time->QuadPart = ++now;
 }
+VOID KeQueryTickCount(PLARGE_INTEGER ticks) { KeQuerySystemTime(ticks); }
+ULONG KeQueryTimeIncrement(VOID) { return 1; }
 
 /* ---- interfaces: one that was enabled is to be disabled before its device is removed */
 struct interface {
@@ -183,6 +232,7 @@ NTSTATUS IoSetDeviceInterfaceState(PUNICODE_STRING link, BOOLEAN enable)
 }
 VOID IoInvalidateDeviceState(PDEVICE_OBJECT pdo) { (void)pdo; }
 VOID IoInvalidateDeviceRelations(PDEVICE_OBJECT pdo, DEVICE_RELATION_TYPE type) { (void)pdo, (void)type; }
+VOID IoRequestDeviceEject(PDEVICE_OBJECT pdo) { (void)pdo; }
 
 /* ---- texts */
 VOID RtlInitUnicodeString(PUNICODE_STRING to, PCWSTR from)
@@ -197,6 +247,36 @@ VOID RtlFreeUnicodeString(PUNICODE_STRING text)
     free(text->Buffer);
     memset(text, 0, sizeof *text);
 }
+NTSTATUS RtlAppendUnicodeStringToString(PUNICODE_STRING to, PCUNICODE_STRING from)
+{
+    if (from->Length > to->MaximumLength - to->Length)
+        return STATUS_BUFFER_TOO_SMALL;
+    if (from->Length)
+        memmove((char *)to->Buffer + to->Length, from->Buffer, from->Length);
+    to->Length = (USHORT)(to->Length + from->Length);
+    return STATUS_SUCCESS;
+}
+NTSTATUS RtlAppendUnicodeToString(PUNICODE_STRING to, PCWSTR from)
+{
+    UNICODE_STRING text;
+    RtlInitUnicodeString(&text, from);
+    return RtlAppendUnicodeStringToString(to, &text);
+}
+LONG RtlCompareUnicodeString(PCUNICODE_STRING one, PCUNICODE_STRING other, BOOLEAN regardless_of_case)
+{
+    size_t length = one->Length / sizeof(WCHAR), other_length = other->Length / sizeof(WCHAR);
+    for (size_t i = 0; i < length && i < other_length; i++) {
+        wint_t a = (wint_t)one->Buffer[i], b = (wint_t)other->Buffer[i];
+        if (regardless_of_case) {
+            a = towupper(a);
+            b = towupper(b);
+        }
+        if (a != b)
+            return a < b ? -1 : 1;
+    }
+    return (LONG)length - (LONG)other_length;
+}
+BOOLEAN RtlEqualUnicodeString(PCUNICODE_STRING one, PCUNICODE_STRING other, BOOLEAN regardless_of_case) { return RtlCompareUnicodeString(one, other, regardless_of_case) == 0; }
 VOID RtlCopyUnicodeString(PUNICODE_STRING to, PCUNICODE_STRING from)
 {
     to->Length = from ? from->Length : 0;
@@ -252,17 +332,28 @@ static const char *print_one(const char *at, va_list *rest)
         fputc(*at ? *at : '%', stderr);
     return *at ? at + 1 : at;
 }
+static void print_all(const char *format, va_list *rest)
+{
+    while (shim_settings.debug && *format)
+        if (*format == '%')
+            format = print_one(format + 1, rest);
+        else
+            fputc(*format++, stderr);
+}
 ULONG DbgPrint(PCSTR format, ...)
 {
     va_list rest;
-    if (!shim_settings.debug)
-        return 0;
     va_start(rest, format);
-    while (*format)
-        if (*format == '%')
-            format = print_one(format + 1, &rest);
-        else
-            fputc(*format++, stderr);
+    print_all(format, &rest);
+    va_end(rest);
+    return 0;
+}
+ULONG DbgPrintEx(ULONG component, ULONG severity, PCSTR format, ...)
+{
+    va_list rest;
+    (void)component, (void)severity;
+    va_start(rest, format);
+    print_all(format, &rest);
     va_end(rest);
     return 0;
 }

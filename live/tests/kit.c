@@ -59,19 +59,55 @@ static void try_timers(void)
     CHECK(count == 2 && KeGetCurrentIrql() == PASSIVE_LEVEL);
 }
 
+static VOID sets_again(PKDPC dpc, PVOID context, PVOID first, PVOID second)
+{
+    (void)dpc, (void)first, (void)second;
+    KeSetTimer(context, no_time, dpc);
+}
+static void try_more_waits(void)
+{
+    KEVENT one, other;
+    PVOID both[] = {&one, &other};
+    KTIMER timer;
+    KDPC dpc;
+    int count = 0;
+    KeInitializeEvent(&one, SynchronizationEvent, FALSE);
+    KeInitializeEvent(&other, SynchronizationEvent, TRUE);
+    CHECK(KeWaitForMultipleObjects(2, both, WaitAll, Executive, KernelMode, FALSE, &no_time, NULL) == STATUS_TIMEOUT);
+    CHECK(KeWaitForMultipleObjects(2, both, WaitAny, Executive, KernelMode, FALSE, NULL, NULL) == STATUS_WAIT_0 + 1);
+    CHECK(KeWaitForMultipleObjects(2, both, WaitAny, Executive, KernelMode, FALSE, &no_time, NULL) == STATUS_TIMEOUT);
+    shim_queue_work(sets, &one);
+    shim_queue_work(sets, &other);
+    CHECK(KeWaitForMultipleObjects(2, both, WaitAll, Executive, KernelMode, FALSE, NULL, NULL) == STATUS_WAIT_0 && !KeReadStateEvent(&one) && !KeReadStateEvent(&other));
+    KeInitializeTimer(&timer);
+    KeInitializeDpc(&dpc, counts, &count);
+    CHECK(!KeSetTimerEx(&timer, no_time, 10, &dpc) && !KeReadStateTimer(&timer));
+    KeDelayExecutionThread(KernelMode, FALSE, &no_time);
+    KeDelayExecutionThread(KernelMode, FALSE, &no_time);
+    CHECK(count == 2 && KeReadStateTimer(&timer) && KeCancelTimer(&timer) && !KeCancelTimer(&timer));
+    KeInsertQueueDpc(&dpc, NULL, NULL);
+    KeFlushQueuedDpcs();
+    CHECK(count == 3);
+    /* A timer that sets itself again and again keeps nobody waiting for ever. */
+    KeInitializeDpc(&dpc, sets_again, &timer);
+    KeSetTimer(&timer, no_time, &dpc);
+    CHECK(KeWaitForSingleObject(&one, Executive, KernelMode, FALSE, &(LARGE_INTEGER){.QuadPart = 1}) == STATUS_TIMEOUT && KeCancelTimer(&timer));
+}
+
 /* ---- locks, numbers, lists, texts */
 static void try_locks(void)
 {
     IO_REMOVE_LOCK lock;
     FAST_MUTEX mutex;
     KSPIN_LOCK spin;
+    KLOCK_QUEUE_HANDLE handle;
     KIRQL old;
     IoInitializeRemoveLock(&lock, 0, 0, 0);
     CHECK(IoAcquireRemoveLock(&lock, NULL) == STATUS_SUCCESS && IoAcquireRemoveLock(&lock, NULL) == STATUS_SUCCESS);
     IoReleaseRemoveLock(&lock, NULL);
     IoReleaseRemoveLockAndWait(&lock, NULL);
     CHECK(IoAcquireRemoveLock(&lock, NULL) == STATUS_DELETE_PENDING);
-    ExInitializeFastMutex(&mutex);
+    KeInitializeGuardedMutex(&mutex);
     ExAcquireFastMutex(&mutex);
     ExReleaseFastMutex(&mutex);
     KeInitializeSpinLock(&spin);
@@ -79,6 +115,10 @@ static void try_locks(void)
     CHECK(KeGetCurrentIrql() == DISPATCH_LEVEL && old == PASSIVE_LEVEL);
     KeReleaseSpinLock(&spin, old);
     CHECK(KeGetCurrentIrql() == PASSIVE_LEVEL);
+    KeAcquireInStackQueuedSpinLock(&spin, &handle);
+    CHECK(KeGetCurrentIrql() == DISPATCH_LEVEL && spin);
+    KeReleaseInStackQueuedSpinLock(&handle);
+    CHECK(KeGetCurrentIrql() == PASSIVE_LEVEL && !spin);
 }
 static void try_numbers(void)
 {
@@ -89,6 +129,8 @@ static void try_numbers(void)
     CHECK(InterlockedExchange(&number, 3) == 0x7fffffff && InterlockedExchangeAdd(&number, 4) == 3 && number == 7);
     CHECK(InterlockedCompareExchange(&number, 9, 8) == 7 && number == 7 && InterlockedCompareExchange(&number, 9, 7) == 7 && number == 9);
     CHECK(InterlockedExchangePointer(&place, &number) == NULL && place == &number);
+    CHECK(InterlockedCompareExchangePointer(&place, NULL, NULL) == &number && InterlockedCompareExchangePointer(&place, NULL, &number) == &number && !place);
+    CHECK(InterlockedOr(&number, 6) == 9 && InterlockedAnd(&number, 12) == 15 && number == 12);
     CHECK(wide.LowPart == 0x55667788 && wide.HighPart == 0x11223344 && wide.u.LowPart == wide.LowPart);
     CHECK(!NT_SUCCESS(STATUS_UNSUCCESSFUL) && NT_SUCCESS(STATUS_PENDING) && NT_ERROR(STATUS_CANCELLED) && NT_WARNING(STATUS_DEVICE_BUSY));
     CHECK((ULONG)STATUS_NOT_SUPPORTED == 0xC00000BBU && (ULONG)STATUS_DEVICE_BUSY == 0x80000011U);
@@ -103,16 +145,26 @@ static void try_lists(void)
     InsertTailList(&head, &three.entry);
     InsertHeadList(&head, &one.entry);
     CHECK(!RemoveEntryList(&two.entry) && RemoveHeadList(&head) == &one.entry && RemoveTailList(&head) == &three.entry && IsListEmpty(&head));
+    CHECK(!ExInterlockedInsertTailList(&head, &two.entry, NULL) && ExInterlockedInsertHeadList(&head, &one.entry, NULL) == &two.entry);
+    CHECK(ExInterlockedRemoveHeadList(&head, NULL) == &one.entry && ExInterlockedRemoveHeadList(&head, NULL) == &two.entry && !ExInterlockedRemoveHeadList(&head, NULL));
 }
 static void try_texts(void)
 {
+    DECLARE_CONST_UNICODE_STRING(name, L"nm");
     WCHAR room[4];
     UNICODE_STRING from, to = {0, sizeof room, room};
-    PUCHAR block = ExAllocatePool2(POOL_FLAG_NON_PAGED, 8, 0);
+    PUCHAR block = ExAllocatePoolZero(NonPagedPool, 8, 0);
+    NPAGED_LOOKASIDE_LIST list;
     RtlInitUnicodeString(&from, L"abcdef");
     CHECK(from.Length == 6 * sizeof(WCHAR) && from.MaximumLength == 7 * sizeof(WCHAR));
     RtlCopyUnicodeString(&to, &from);
     CHECK(to.Length == sizeof room && RtlCompareMemory(to.Buffer, from.Buffer, to.Length) == to.Length);
+    CHECK(RtlAppendUnicodeToString(&to, L"x") == STATUS_BUFFER_TOO_SMALL && !RtlEqualUnicodeString(&to, &from, TRUE));
+    to.Length = 2 * sizeof(WCHAR);
+    CHECK(RtlAppendUnicodeToString(&to, L"CD") == STATUS_SUCCESS && RtlCompareUnicodeString(&to, &from, FALSE) < 0);
+    from.Length = to.Length;
+    CHECK(RtlEqualUnicodeString(&to, &from, TRUE) && !RtlEqualUnicodeString(&to, &from, FALSE));
+    CHECK(name.Length == 2 * sizeof(WCHAR) && name.Buffer[1] == L'm');
     RtlCopyUnicodeString(&to, NULL);
     RtlInitUnicodeString(&from, NULL);
     CHECK(to.Length == 0 && from.Length == 0 && !from.Buffer);
@@ -120,9 +172,14 @@ static void try_texts(void)
     RtlFillMemory(block, 8, 1);
     CHECK(block[7] == 1);
     ExFreePoolWithTag(block, 0);
+    ExInitializeNPagedLookasideList(&list, NULL, NULL, 0, 8, 0, 0);
+    block = ExAllocateFromNPagedLookasideList(&list);
+    CHECK(block != NULL);
+    ExFreeToNPagedLookasideList(&list, block);
+    ExDeleteNPagedLookasideList(&list);
     CHECK(GUID_OF_THE_TEST.Data1 == 0x86e0d1e0 && GUID_OF_THE_TEST.Data4[7] == 0x73);
     KdPrint(("kit: %d %8.8lX %u %wZ %ws %s %c %I64x %lld %% %hd %p %q %", -1, 255U, 7U, &to, L"wide", "text", 'c', 0x123456789aLL, -5LL, 3, (void *)NULL));
-    DbgPrint("\n");
+    KdPrintEx((DPFLTR_IHVDRIVER_ID, DPFLTR_INFO_LEVEL, "%s\n", ""));
 }
 
 /* ---- requests of one's own, queues, a device without a stack */
@@ -145,6 +202,29 @@ static VOID csq_acquire(PIO_CSQ csq, PKIRQL old) { (void)csq, KeRaiseIrql(DISPAT
 static VOID csq_release(PIO_CSQ csq, KIRQL old) { (void)csq, KeLowerIrql(old); }
 static VOID csq_cancelled(PIO_CSQ csq, PIRP irp) { (void)csq, (void)irp; }
 
+static int cancelled;
+static VOID cancels(PDEVICE_OBJECT device, PIRP irp)
+{
+    (void)device;
+    IoReleaseCancelSpinLock(irp->CancelIrql);
+    cancelled++;
+}
+
+/* ---- what is kept at the driver object, and the registry, which is empty */
+static void try_keeping(PDRIVER_OBJECT driver)
+{
+    PVOID place;
+    HANDLE key = NULL;
+    UNICODE_STRING name;
+    OBJECT_ATTRIBUTES attributes;
+    ULONG needed = 7;
+    CHECK(IoAllocateDriverObjectExtension(driver, &begun, 8, &place) == STATUS_SUCCESS && place == IoGetDriverObjectExtension(driver, &begun) && !IoGetDriverObjectExtension(driver, &place));
+    CHECK(IoAllocateDriverObjectExtension(driver, &begun, 8, &place) == STATUS_OBJECT_NAME_COLLISION && !place);
+    RtlInitUnicodeString(&name, L"name");
+    InitializeObjectAttributes(&attributes, &name, OBJ_CASE_INSENSITIVE, NULL, NULL);
+    CHECK(attributes.ObjectName == &name && ZwOpenKey(&key, KEY_READ, &attributes) == STATUS_OBJECT_NAME_NOT_FOUND);
+    CHECK(ZwQueryValueKey(key, &name, KeyValuePartialInformation, NULL, 0, &needed) == STATUS_OBJECT_NAME_NOT_FOUND && !needed);
+}
 static void try_queues(PDRIVER_OBJECT driver)
 {
     PDEVICE_OBJECT device;
@@ -170,6 +250,9 @@ static void try_queues(PDRIVER_OBJECT driver)
     IoCsqInsertIrp(&csq, one, NULL);
     IoCsqInsertIrp(&csq, two, &context);
     CHECK(IoCsqRemoveIrp(&csq, &context) == two && !IoCsqRemoveIrp(&csq, &context) && IoCsqRemoveNextIrp(&csq, NULL) == one && !IoCsqRemoveNextIrp(&csq, NULL));
+    CHECK(!IoCancelIrp(one) && one->Cancel && KeGetCurrentIrql() == PASSIVE_LEVEL);
+    IoSetCancelRoutine(one, cancels);
+    CHECK(IoCancelIrp(one) && cancelled == 1 && KeGetCurrentIrql() == PASSIVE_LEVEL && !IoCancelIrp(one));
     IoReuseIrp(one, STATUS_NOT_SUPPORTED);
     CHECK(one->CurrentLocation == 2 && one->StackCount == 1 && two->StackCount == 1);
     IoFreeIrp(one);
@@ -223,10 +306,12 @@ NTSTATUS DriverEntry(PDRIVER_OBJECT driver, PUNICODE_STRING registry_path)
     try_events();
     try_counts();
     try_timers();
+    try_more_waits();
     try_locks();
     try_numbers();
     try_lists();
     try_texts();
     try_queues(driver);
+    try_keeping(driver);
     return wrong ? STATUS_UNSUCCESSFUL : STATUS_SUCCESS;
 }

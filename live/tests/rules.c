@@ -11,6 +11,7 @@ typedef struct _EXTENSION {
     PKINTERRUPT interrupt;
     PVOID memory;
     PIRP held;
+    KTIMER timer;
 } EXTENSION, *PEXTENSION;
 
 static int is(const char *tag)
@@ -167,12 +168,16 @@ static NTSTATUS query_stop(PDEVICE_OBJECT device, PIRP irp)
         IoSkipCurrentIrpStackLocation(irp);
         return succeed(device, irp);
     }
+    if (is("completed-after-skip")) {
+        IoSkipCurrentIrpStackLocation(irp);
+        return complete(irp, STATUS_UNSUCCESSFUL);
+    }
     if (is("location-not-set")) {
         irp->IoStatus.Status = STATUS_SUCCESS;
         return IoCallDriver(it->lower, irp);
     }
     if (is("called-wrong-device")) {
-        IoSkipCurrentIrpStackLocation(irp);
+        IoCopyCurrentIrpStackLocationToNext(irp);
         IoCallDriver(device, irp);
         return complete(irp, STATUS_UNSUCCESSFUL);
     }
@@ -254,6 +259,9 @@ static NTSTATUS remove_device(PDEVICE_OBJECT device, PIRP irp)
     }
     status = succeed(device, irp);
     IoReleaseRemoveLockAndWait(&it->lock, irp);
+    KeSetTimerEx(&it->timer, (LARGE_INTEGER){.QuadPart = -10000}, 1, NULL);
+    if (!is("timer-left-set"))
+        KeCancelTimer(&it->timer);
     RtlFreeUnicodeString(&it->link);
     if (!is("not-detached") && !is("deleted-while-attached") && !is("detached-early"))
         IoDetachDevice(lower);
@@ -329,6 +337,7 @@ static NTSTATUS add_device(PDRIVER_OBJECT driver, PDEVICE_OBJECT pdo)
     it->pdo = pdo;
     IoInitializeRemoveLock(&it->lock, 0, 0, 0);
     KeInitializeSpinLock(&it->spin);
+    KeInitializeTimer(&it->timer);
     if (is("not-attached"))
         return STATUS_SUCCESS;
     IoRegisterDeviceInterface(pdo, &(GUID){1, 2, 3, {4}}, NULL, &it->link);

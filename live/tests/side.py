@@ -11,14 +11,15 @@ def say(text):
 
 
 def answers(until=None):
-    """Answers ok to each ask, of which it yields the number; to a poll none. Before ask `until` it stops."""
+    """Answers ok to each ask, and to a poll none. Before ask `until`, a number or what is asked, it stops, and returns True."""
     say(b"live 1\n")
     for line in sys.stdin.buffer:
         if line.startswith(b"# ask "):
             number = line.split()[2]
-            if until and int(number) == until:
-                return
+            if until and until in (int(number), line.split()[3].decode()):
+                return True
             say(number + (b" none\n" if line.split()[3] == b"poll" else b" ok\n"))
+    return False
 
 
 def endless(data):
@@ -36,13 +37,13 @@ def main(kind, k):
     elif kind == "silent":
         sleep()
     elif kind == "dies":
-        answers(k)
-        os.kill(os.getpid(), 11)
+        if answers(k):
+            os.kill(os.getpid(), 11)
     elif kind == "ends":
         answers(k)
     elif kind == "hangs":
-        answers(k)
-        sleep()
+        if answers(k):
+            sleep()
     elif kind == "endless-bytes":
         endless(b"x" * 4096)
     elif kind == "endless-lines":
@@ -56,13 +57,13 @@ def main(kind, k):
             say(b"l")
             time.sleep(0.2)
     elif kind == "closes-input":
-        answers(k)
-        os.close(0)
-        sleep()
+        if answers(k):
+            os.close(0)
+            sleep()
     elif kind == "closes-output":
-        answers(k)
-        os.close(1)
-        sleep()
+        if answers(k):
+            os.close(1)
+            sleep()
     elif kind == "leaves-a-child":
         # The child has the pipes too, in a session of its own, and lives on.
         subprocess.Popen(["sleep", "4"], start_new_session=True)
@@ -81,6 +82,6 @@ def main(kind, k):
 
 if __name__ == "__main__":
     try:
-        main(sys.argv[1], int(sys.argv[2]) if len(sys.argv) > 2 else None)
+        main(sys.argv[1], None if len(sys.argv) < 3 else int(sys.argv[2]) if sys.argv[2].isdigit() else sys.argv[2])
     except BrokenPipeError:
         os._exit(0)

@@ -11,7 +11,7 @@ use Rattle.pnp_labels.specs.declared.label.OpEnd.{OpEnd}
 use Rattle.pnp_labels.specs.declared.label.OpKind.{OpKind}
 use Rattle.pnp_model.specs.Events.{happens}
 use Rattle.pnp_model.specs.Machine as ma
-use Rattle.pnp_model.specs.Records.{Beginning, Driver, Settings, State, Step}
+use Rattle.pnp_model.specs.Records.{Beginning, Driver, Settings}
 use Rattle.pnp_model.specs.Runs.{Entry, opening}
 use Rattle.pnp_model.specs.States.{node_of}
 use Rattle.notify_front.specs.Fronts as fr
@@ -20,7 +20,7 @@ use Rattle.notify_front.specs.Laws.{asked}
 use Rattle.notify_front.specs.Notices.{FrontGoes, FrontRun}
 use Rattle.notify_front.proofs.Runs.{Fits, IsReady, Beside, lifted_step, quiet_hand, unwatch_at, watch_at}
 use Rattle.notify_front.proofs.Told.{Holds, Kept, kept_goes, opening_kept}
-use Rattle.client_promises.specs.Notices.{EndsIn, HasCause, IsDone, IsGone, IsQuery, IsStay, NoticesHaveCausesLaw}
+use Rattle.client_promises.specs.Notices.{EndsIn, HasCause, IsGone, IsQuery, IsStay, NoticesHaveCausesLaw}
 
 -- What stands last --------------------------------------------------------------------------------------
 

@@ -1,27 +1,24 @@
 -- Who is registered.
-use Rattle.std.proofs.Common.{ℕ, ◌≡◌, ◌≢◌, inl, inr, Bool, true, false, List, [], ◌∷◌, Option, Some, None, refl, sym, ap, ◌∙◌, subst, reverse}
+use Rattle.std.proofs.Common.{◌≡◌, ◌≢◌, inl, inr, Bool, true, false, List, [], ◌∷◌, Option, Some, None, refl, sym, ap, subst, reverse}
 use Rattle.std.specs.List.{find, list_any}
-use Rattle.std.specs.Option.{option_map}
 use Rattle.pnp_labels.specs.Texts.{Text}
-use Rattle.pnp_labels.specs.declared.deed.Deed.{Deed}
 use Rattle.pnp_labels.specs.declared.event.Event.{Event}
 use Rattle.pnp_labels.specs.declared.label.Label.{Label}
 use Rattle.pnp_labels.specs.declared.label.OpKind.{OpKind}
-use Rattle.pnp_labels.specs.declared.label.Reason.{Reason}
 use Rattle.pnp_labels.specs.declared.states.DevState.{DevState}
 use Rattle.pnp_labels.specs.declared.states.DevState.TheVariants.{Started}
 use Rattle.pnp_model.specs.Events.{happens}
 use Rattle.pnp_model.specs.Machine as ma
-use Rattle.pnp_model.specs.Records.{Beginning, Doing, Job, Node, Settings, State, Step}
+use Rattle.pnp_model.specs.Records.{Beginning, Job, Node, Settings}
 use Rattle.pnp_model.specs.Runs.{Entry}
 use Rattle.pnp_model.specs.States.{node_of}
 use Rattle.pnp_model.specs.Tests.{is_started}
-use Rattle.pnp_promises.specs.Refusals.{NoneHolds, TheNode}
+use Rattle.pnp_promises.specs.Refusals.{TheNode}
 use Rattle.notify_front.specs.Fronts as fr
 use Rattle.notify_front.specs.Fronts.{Answered, Front, FrontEntry, FrontStep, Hand, IsFrontStep, Registration}
 use Rattle.notify_front.specs.Notices.{FrontGoes}
 use Rattle.notify_front.proofs.Runs.{lifted_step}
-use Rattle.client_promises.specs.Registering.{After, ByCauses, ClientsAreRegisteredLaw, ClientCausesAreExactLaw, IsExactOf, IsRegistered, RegistrationsAreTheClientsLaw, UnwatchCause, WatchCause, unwatch_causes, watch_causes}
+use Rattle.client_promises.specs.Registering.{After, ClientsAreRegisteredLaw, ClientCausesAreExactLaw, IsExactOf, IsRegistered, RegistrationsAreTheClientsLaw}
 
 -- What an event of a client gives --------------------------------------------------------------------------
 

@@ -1,5 +1,5 @@
 -- Who is registered: why an event of a client is refused, what an accepted one does, and that nothing else registers anyone.
-use Rattle.std.specs.Prelude.{ℕ, ◌≡◌, ◌≢◌, Bool, true, List, [], ◌∷◌, Some, None, find}
+use Rattle.std.specs.Prelude.{◌≡◌, ◌≢◌, true, List, [], ◌∷◌, Some, None, find}
 use Rattle.std.specs.List.{list_any}
 use Rattle.pnp_labels.specs.Texts.{Text}
 use Rattle.pnp_labels.specs.declared.deed.Deed.{Deed}

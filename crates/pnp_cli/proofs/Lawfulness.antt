@@ -36,12 +36,19 @@ use Rattle.pnp_laws.specs.Needs.{IsEntryWithin, IsEventWithin}
 use Rattle.pnp_laws.proofs.NodesPlugged.{needs_are_within}
 use Rattle.pnp_laws.proofs.TreePrints.{each_node_is_printed_once}
 use Rattle.pnp_model.specs.Laws.{Reaches}
-use Rattle.pnp_promises.specs.Endings.{EndTells}
+use Rattle.pnp_promises.proofs.Alone.{operations_are_alone}
 use Rattle.pnp_promises.proofs.Asks.{asks_are_in_order}
 use Rattle.pnp_promises.proofs.Endings.{end_tells_what_is}
 use Rattle.pnp_promises.proofs.Events.{accepted_is_done, causes_are_exact, refused_changes_nothing}
 use Rattle.pnp_promises.proofs.Keeps.{running_keeps, tasks_are_in_turn}
 use Rattle.pnp_promises.proofs.Lines.{lines_mean_what_they_say}
+use Rattle.pnp_promises.proofs.Named.{only_the_named_device_changes}
+use Rattle.pnp_promises.proofs.Pended.{what_is_pended_waits}
+use Rattle.pnp_promises.proofs.Relations.{relations_go_with_drivers}
+use Rattle.pnp_promises.proofs.Searches.{searches_keep_the_budget}
+use Rattle.pnp_promises.proofs.TreeOrder.{tree_stands}
+use Rattle.client_promises.proofs.Notices.{notices_have_causes}
+use Rattle.client_promises.proofs.Registering.{client_causes_are_exact, clients_are_registered, registrations_are_the_clients}
 use Rattle.notify_front.specs.Fronts.{Front, FrontEntry, FrontStep, IsFrontQuiet, front_happens, front_printed, opening_front}
 use Rattle.notify_front.specs.Fronts.FrontEntry.{Passes, Tells, Watches}
 use Rattle.notify_front.specs.Notices.{FrontGoes, FrontRun, machine_part}
@@ -62,7 +69,7 @@ use Rattle.pnp_cli.specs.Infs.{infs_in}
 use Rattle.pnp_cli.specs.Runs.{IsOutput, IsOutputBy, IsOutputFor, IsOutputWith, IsScriptOutput, IsSummaryBy, machine, told_to}
 use Rattle.pnp_cli.specs.Contents.{events_of}
 use Rattle.pnp_cli.specs.Words.{settings_of}
-use Rattle.pnp_cli.specs.Lawful.{happened, events_in, IsStep, IsTold, Said, SomeRun, OfRun, EachPassed, EachState, EachStep, OfScript, OfInfs, OfMade, OfSource, OfOutput, ByDiagram, NothingClashes, AllHoldWhole, OperationsBegan, EndsRestore, DependentsGoFirst, ConflictsAreReal, FewJoin, AllStatesTold, NodesAreKeyed, NothingOnItself, MapIsClear, AllStacksFit, NamesAreKnown, NobodyIsForgotten, EachHoldsPart, HeldInsideWindows, HandlesAreKept, FewAreHeld, NamesAreShown, ShowsName, TreeIsWhole, PromisesKept, KeptRunning, OfFrontRun, EachFrontStep, MachineRuns, ClientsWereAsked, ClientsDecline, NoticesKeepAll, ClientsHear, MachineAlone}
+use Rattle.pnp_cli.specs.Lawful.{happened, events_in, IsStep, IsTold, Said, SomeRun, OfRun, EachPassed, EachState, EachStep, OfScript, OfInfs, OfMade, OfSource, OfOutput, ByDiagram, NothingClashes, AllHoldWhole, OperationsBegan, EndsRestore, DependentsGoFirst, ConflictsAreReal, FewJoin, AllStatesTold, NodesAreKeyed, NothingOnItself, MapIsClear, AllStacksFit, NamesAreKnown, NobodyIsForgotten, EachHoldsPart, HeldInsideWindows, HandlesAreKept, FewAreHeld, NamesAreShown, ShowsName, TreeIsWhole, PromisesKept, KeptRunning, EndIsSo, ClientsPromised, OfFrontRun, EachFrontStep, MachineRuns, ClientsWereAsked, ClientsDecline, NoticesKeepAll, ClientsHear, MachineAlone}
 use Rattle.pnp_cli.specs.declared.infs.InfsError.{InfsError}
 use Rattle.pnp_cli.proofs.FewIds.{NamesByWord, names_by_words, script_within}
 use Rattle.pnp_cli.specs.declared.parts.Settings.{Settings}
@@ -280,8 +287,14 @@ output_handles words contents rack =
 promises_kept : (settings : machines.Settings) (rack : List Driver) (earlier : List Entry) (old : State) (entry : Entry) (new : State) → Reaches settings rack earlier old → Goes settings old entry new → PromisesKept settings rack earlier old entry new
 promises_kept settings rack earlier old (Happens event label) new before goes =
     (refused_changes_nothing settings rack earlier old event label new before goes, causes_are_exact settings rack earlier old event label new before goes, accepted_is_done settings rack earlier old event label new before goes)
-promises_kept settings rack earlier old (Did label) new before goes =
-    (lines_mean_what_they_say settings rack earlier old label new before goes, λ minor path driver shown is. asks_are_in_order settings rack earlier old (Did label) new minor path driver shown before goes is)
+promises_kept settings rack earlier old (Did label) new before goes = (
+  lines_mean_what_they_say settings rack earlier old label new before goes,
+  λ minor path driver shown is. asks_are_in_order settings rack earlier old (Did label) new minor path driver shown before goes is,
+  searches_keep_the_budget settings rack earlier old label new before goes,
+  λ k n m was is. only_the_named_device_changes settings rack earlier old label new k n m before goes was is,
+  relations_go_with_drivers settings rack earlier old label new before goes,
+  λ o runs. operations_are_alone settings rack earlier old label new o before runs goes,
+)
 promises_kept settings rack earlier old (Declines label) new before goes = tt
 
 pub output_promises : (words : List Text) (contents : Option (Text → Option (List ℕ))) (rack : List Driver) → OfOutput (EachStep PromisesKept) words contents rack
@@ -293,13 +306,17 @@ pub output_keeps : (words : List Text) (contents : Option (Text → Option (List
 unfolding Holds
 output_keeps words contents rack =
     of_output (EachStep KeptRunning) rack
-    (λ settings script report text shows entries last told earlier old entry new step.
-    (tasks_are_in_turn settings rack earlier old entry new step.before step.goes, running_keeps settings rack earlier old entry new step.before step.goes)) words contents
+    (λ settings script report text shows entries last told earlier old entry new step. (
+      tasks_are_in_turn settings rack earlier old entry new step.before step.goes,
+      running_keeps settings rack earlier old entry new step.before step.goes,
+      λ k minor. what_is_pended_waits settings rack earlier old entry new k minor step.before step.goes,
+    )) words contents
 
-pub output_ends_told : (words : List Text) (contents : Option (Text → Option (List ℕ))) (rack : List Driver) → OfOutput (EachState EndTells) words contents rack
+pub output_ends_told : (words : List Text) (contents : Option (Text → Option (List ℕ))) (rack : List Driver) → OfOutput (EachState EndIsSo) words contents rack
 unfolding Holds
 output_ends_told words contents rack =
-    of_output (EachState EndTells) rack (λ settings script report text shows entries last told s state. end_tells_what_is settings rack state.earlier s state.before) words contents
+    of_output (EachState EndIsSo) rack
+    (λ settings script report text shows entries last told s state. (end_tells_what_is settings rack state.earlier s state.before, tree_stands settings rack state.earlier s state.before)) words contents
 
 -- what the events of a run plug is within the limits of the script
 entries_within : (entries : List FrontEntry) → AllByRecursion (IsEventWithin 16) (happened entries) → AllByRecursion (IsEntryWithin 16) (machine_part entries)
@@ -356,6 +373,21 @@ unfolding Holds
 output_notices words contents rack =
     of_output (EachFrontStep NoticesKeepAll) rack
     (λ settings script report text shows entries last told earlier old entry new step is_told. keeps_core settings rack earlier old entry new step.before step.goes is_told) words contents
+
+clients_promised : (settings : machines.Settings) (rack : List Driver) (earlier : List FrontEntry) (old : Front) (entry : FrontEntry) (new : Front)
+    → FrontRun settings (opening_front (opening rack)) earlier old → FrontGoes settings old entry new → ClientsPromised earlier old entry new
+clients_promised settings rack earlier old (Watches event label) new before goes = (
+  client_causes_are_exact settings rack earlier old event label new before goes,
+  λ deed is. clients_are_registered settings rack earlier old event deed new before (subst (λ (x : Label). FrontGoes settings old (Watches event x) new) is goes),
+)
+clients_promised settings rack earlier old (Tells label) new before goes =
+    (notices_have_causes settings rack earlier old label new before goes, registrations_are_the_clients settings rack earlier old (Tells label) new before goes)
+clients_promised settings rack earlier old (Passes entry) new before goes = registrations_are_the_clients settings rack earlier old (Passes entry) new before goes
+
+pub output_clients : (words : List Text) (contents : Option (Text → Option (List ℕ))) (rack : List Driver) → OfOutput (EachFrontStep ClientsPromised) words contents rack
+unfolding Holds
+output_clients words contents rack =
+    of_output (EachFrontStep ClientsPromised) rack (λ settings script report text shows entries last told earlier old entry new step. clients_promised settings rack earlier old entry new step.before step.goes) words contents
 
 pub output_hears : (words : List Text) (contents : Option (Text → Option (List ℕ))) (rack : List Driver) → OfOutput (OfFrontRun ClientsHear) words contents rack
 unfolding Holds

@@ -1,6 +1,7 @@
 -- That an output tells a run of the front and of the machine behind it, and what is kept by each state and each step of these.
-use Rattle.std.specs.Prelude.{ℕ, ◌+◌, ◌*◌, ◌≤◌, ◌≡◌, ◌≢◌, true, List, [], ◌∷◌, ◌++◌, Option, Some, None, Result, Ok, Err, map}
+use Rattle.std.specs.Prelude.{ℕ, ◌+◌, ◌*◌, ◌≤◌, ◌≡◌, ◌≢◌, ◌⊎◌, true, List, [], ◌∷◌, ◌++◌, Option, Some, None, Result, Ok, Err, map}
 use Rattle.pnp_labels.specs.Texts.{Text}
+use Rattle.pnp_labels.specs.declared.deed.Deed.{Deed}
 use Rattle.pnp_labels.specs.declared.event.Event.{Event}
 use Rattle.pnp_labels.specs.declared.states.Problem.{Problem}
 use Rattle.pnp_labels.specs.declared.label.Label.{Label}
@@ -10,6 +11,8 @@ use Rattle.pnp_labels.specs.declared.words.Minor.{Minor}
 use Rattle.pnp_labels.specs.declared.label.OpKind.{OpKind}
 use Rattle.pnp_model.specs.Records as machines
 use Rattle.pnp_model.specs.Records.{Beginning, Driver, State}
+use Rattle.pnp_model.specs.Cores.{node_at}
+use Rattle.pnp_model.specs.Endings.{print_order}
 use Rattle.pnp_model.specs.Machine.{due, is_in_order}
 use Rattle.pnp_model.specs.Runs.{Entry, Goes, Run, opening, printed}
 use Rattle.pnp_model.specs.Runs.Entry.{Happens, Did, Declines}
@@ -27,10 +30,19 @@ use Rattle.pnp_laws.specs.Told.{StatesTold}
 use Rattle.pnp_laws.specs.Waiting.{DependentsTold, NeitherRuns, OpenHandles, ReadyDue}
 use Rattle.pnp_laws.specs.Windows.{InsideWindows}
 use Rattle.pnp_promises.specs.Accepted.{IsDone}
+use Rattle.pnp_promises.specs.Alone.{IsOfOperation}
 use Rattle.pnp_promises.specs.Asks.{AsksNext}
+use Rattle.pnp_promises.specs.Endings.{EndTells}
 use Rattle.pnp_promises.specs.Keeps.{InTurn, KeepsHoldings}
 use Rattle.pnp_promises.specs.Lines.{Means}
-use Rattle.pnp_promises.specs.Refusals.{ChangesNothing, IsExact}
+use Rattle.pnp_promises.specs.Named.{ChangesBy}
+use Rattle.pnp_promises.specs.Pended.{IsCompletion}
+use Rattle.pnp_promises.specs.Refusals.{AwaitsAnswer, ChangesNothing, IsExact}
+use Rattle.pnp_promises.specs.Relations.{GoesWithDrivers}
+use Rattle.pnp_promises.specs.Searches.{Costs}
+use Rattle.pnp_promises.specs.TreeOrder.{TreeStands}
+use Rattle.client_promises.specs.Notices.{HasCause}
+use Rattle.client_promises.specs.Registering.{After, IsExactOf, IsRegistered}
 use Rattle.notify_front.specs.Fronts.{Front, FrontEntry, IsFrontQuiet, front_printed, on_set, opening_front}
 use Rattle.notify_front.specs.Fronts.FrontEntry.{Passes, Tells, Watches}
 use Rattle.notify_front.specs.Laws as notices
@@ -250,15 +262,41 @@ HandlesAreKept s = OpenHandles s × (NeitherRuns s.operation → DependentsTold 
 abbrev pub AsksInOrder : State → Label → State → Type 0
 AsksInOrder old label new = (minor : Minor) (path driver : Text) (shown : Shown) → label ≡ Label.Asked minor path driver shown → AsksNext old minor path driver shown new
 
+-- of a device that is there before and after a line what the line names changes, and nothing else
+abbrev pub NamedAlone : State → Label → State → Type 0
+NamedAlone old label new =
+    (k : ℕ) (n m : machines.Node) → node_at k old.core.nodes ≡ Some n → node_at k new.core.nodes ≡ Some m → (m ≡ n) ⊎ ChangesBy old label n m
+
+-- no relation is made, and those of a device that loses its drivers are forgotten
+abbrev pub RelationsGo : State → Label → State → Type 0
+RelationsGo old label new = (new.core.relations ≡ old.core.relations) ⊎ GoesWithDrivers old label new
+
+-- while an operation runs nothing is being started, and each step is its own
+abbrev pub IsAlone : State → Label → Type 0
+IsAlone old label = (o : machines.Job) → old.operation ≡ Some o → (old.activities ≡ []) × IsOfOperation label
+
+-- what a line says is so, a search keeps its budget, and each line changes what it names, and nothing else
+abbrev pub LinePromised : machines.Settings → State → Label → State → Type 0
+LinePromised settings old label new =
+    Means settings old label new × AsksInOrder old label new × Costs settings old label × NamedAlone old label new × RelationsGo old label new × IsAlone old label
+
 -- a refused event changes nothing, and its cause is the first that holds; an accepted one is done, and nothing else; and what a line says is so
 abbrev pub PromisesKept : machines.Settings → List Driver → List Entry → State → Entry → State → Type 0
 PromisesKept settings rack earlier old (Happens event label) new = ChangesNothing old label new × IsExact old event label × IsDone old event label new
-PromisesKept settings rack earlier old (Did label) new = Means settings old label new × AsksInOrder old label new
+PromisesKept settings rack earlier old (Did label) new = LinePromised settings old label new
 PromisesKept settings rack earlier old (Declines label) new = Unit {0}
 
--- tasks are taken in turn, and a running device keeps what it holds
+-- a request whose answer is waited for waits until it is completed
+abbrev pub PendedWaits : State → Entry → State → Type 0
+PendedWaits old entry new = (k : ℕ) (minor : Minor) → AwaitsAnswer old k minor → AwaitsAnswer new k minor ⊎ IsCompletion old entry k minor
+
+-- tasks are taken in turn, a running device keeps what it holds, and what is pended waits
 abbrev pub KeptRunning : machines.Settings → List Driver → List Entry → State → Entry → State → Type 0
-KeptRunning settings rack earlier old entry new = InTurn old new × KeepsHoldings old new
+KeptRunning settings rack earlier old entry new = InTurn old new × KeepsHoldings old new × PendedWaits old entry new
+
+-- what the end would tell is so, and under `tree` each line stands below that of its parent
+abbrev pub EndIsSo : State → Type 0
+EndIsSo s = EndTells s × TreeStands (print_order s.core.nodes)
 
 -- no alternative of a device has more than 16 groups; and where none has more than some number, at most one more than that
 -- number is held or reserved for each event, and for the root
@@ -294,6 +332,12 @@ ClientsWereAsked earlier old entry new =
 -- then those that agreed heard of it, the last one first
 abbrev pub ClientsDecline : List FrontEntry → Front → FrontEntry → Front → Type 0
 ClientsDecline earlier old entry new = (label : Label) → entry ≡ Passes (Declines label) → IsDeclinedAfter earlier old label
+
+-- an event of a client is refused by the first cause that holds, or done; a notice has its cause; and registrations come and go so alone
+abbrev pub ClientsPromised : List FrontEntry → Front → FrontEntry → Front → Type 0
+ClientsPromised earlier old (Watches event label) new = IsExactOf old event label new × ((deed : Deed) → label ≡ Label.Did deed → IsRegistered old event deed new)
+ClientsPromised earlier old (Tells label) new = HasCause earlier old label × After old (Tells label) new
+ClientsPromised earlier old (Passes entry) new = After old (Passes entry) new
 
 -- a notice and a `declined` leave nodes, relations, reserved ranges and every book as they are
 abbrev pub NoticesKeepAll : List FrontEntry → Front → FrontEntry → Front → Type 0

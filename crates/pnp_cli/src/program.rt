@@ -9,9 +9,8 @@ ghost use Rattle.pnp_cli.specs.Turns.{Awaits};
 ghost use Rattle.pnp_machine.specs.Managers.{settings};
 ghost use Rattle.notify_front.specs.Desks.{IsAtStart, front_of, told_of};
 ghost use Rattle.notify_front.specs.Fronts.{opening_front};
-ghost use Rattle.pnp_cli.specs.Lawful.{OfOutput, SomeRun, OfRun, EachState, EachStep, ByDiagram, NothingClashes, AllHoldWhole, OperationsBegan, EndsRestore, DependentsGoFirst, ConflictsAreReal, FewJoin, AllStatesTold, NodesAreKeyed, NothingOnItself, MapIsClear, AllStacksFit, NamesAreKnown, NobodyIsForgotten, EachPassed, EachHoldsPart, HeldInsideWindows, HandlesAreKept, FewAreHeld, NamesAreShown, TreeIsWhole, PromisesKept, KeptRunning, OfFrontRun, EachFrontStep, MachineRuns, ClientsWereAsked, ClientsHear, ClientsDecline, NoticesKeepAll, MachineAlone};
+ghost use Rattle.pnp_cli.specs.Lawful.{OfOutput, SomeRun, OfRun, EachState, EachStep, ByDiagram, NothingClashes, AllHoldWhole, OperationsBegan, EndsRestore, DependentsGoFirst, ConflictsAreReal, FewJoin, AllStatesTold, NodesAreKeyed, NothingOnItself, MapIsClear, AllStacksFit, NamesAreKnown, NobodyIsForgotten, EachPassed, EachHoldsPart, HeldInsideWindows, HandlesAreKept, FewAreHeld, NamesAreShown, TreeIsWhole, PromisesKept, KeptRunning, EndIsSo, ClientsPromised, OfFrontRun, EachFrontStep, MachineRuns, ClientsWereAsked, ClientsHear, ClientsDecline, NoticesKeepAll, MachineAlone};
 ghost use Rattle.pnp_cli.specs.OwnTraces.{ChecksYes};
-ghost use Rattle.pnp_promises.specs.Endings.{EndTells};
 ghost use Rattle.pnp_cli.specs.Limits.{IsWithin};
 ghost use Rattle.driver_rack.specs.Rows.{unnamed};
 
@@ -316,11 +315,12 @@ pub fn run<F: Files, K: Sink>(
     ensures each_node_is_printed_once { OfOutput (EachState TreeIsWhole) (texts words.now) (F.contents files.old) (map (λ b. unnamed (kind_of b) (book b)) rack.items) }
     ensures promises { OfOutput (EachStep PromisesKept) (texts words.now) (F.contents files.old) (map (λ b. unnamed (kind_of b) (book b)) rack.items) }
     ensures keeps { OfOutput (EachStep KeptRunning) (texts words.now) (F.contents files.old) (map (λ b. unnamed (kind_of b) (book b)) rack.items) }
-    ensures ending { OfOutput (EachState EndTells) (texts words.now) (F.contents files.old) (map (λ b. unnamed (kind_of b) (book b)) rack.items) }
+    ensures ending { OfOutput (EachState EndIsSo) (texts words.now) (F.contents files.old) (map (λ b. unnamed (kind_of b) (book b)) rack.items) }
     ensures runs_the_machine { OfOutput (OfFrontRun MachineRuns) (texts words.now) (F.contents files.old) (map (λ b. unnamed (kind_of b) (book b)) rack.items) }
     ensures asks_all_before { OfOutput (EachFrontStep ClientsWereAsked) (texts words.now) (F.contents files.old) (map (λ b. unnamed (kind_of b) (book b)) rack.items) }
     ensures all_hear_the_result { OfOutput (OfFrontRun ClientsHear) (texts words.now) (F.contents files.old) (map (λ b. unnamed (kind_of b) (book b)) rack.items) }
     ensures declined_by_a_client { OfOutput (EachFrontStep ClientsDecline) (texts words.now) (F.contents files.old) (map (λ b. unnamed (kind_of b) (book b)) rack.items) }
+    ensures clients { OfOutput (EachFrontStep ClientsPromised) (texts words.now) (F.contents files.old) (map (λ b. unnamed (kind_of b) (book b)) rack.items) }
     ensures notices_keep_the_core { OfOutput (EachFrontStep NoticesKeepAll) (texts words.now) (F.contents files.old) (map (λ b. unnamed (kind_of b) (book b)) rack.items) }
     ensures same_without_clients { OfOutput (OfFrontRun MachineAlone) (texts words.now) (F.contents files.old) (map (λ b. unnamed (kind_of b) (book b)) rack.items) }
     ensures each_output_is_a_trace { OfOutput ChecksYes (texts words.now) (F.contents files.old) (map (λ b. unnamed (kind_of b) (book b)) rack.items) }

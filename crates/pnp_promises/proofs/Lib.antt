@@ -22,3 +22,4 @@ pub mod Alone
 pub mod AtRest
 pub mod Pended
 pub mod Named
+pub mod Relations

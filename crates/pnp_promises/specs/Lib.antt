@@ -18,3 +18,4 @@ pub mod Alone
 pub mod AtRest
 pub mod Pended
 pub mod Named
+pub mod Relations

@@ -14,6 +14,7 @@ ghost use Rattle.pnp_promises.specs.Named.{OnlyTheNamedDeviceChangesLaw};
 ghost use Rattle.pnp_promises.specs.Pended.{WhatIsPendedWaitsLaw};
 ghost use Rattle.pnp_promises.specs.Ranks.{TheBestIsChosenLaw};
 ghost use Rattle.pnp_promises.specs.Refusals.{CausesAreExactLaw, RefusedChangesNothingLaw};
+ghost use Rattle.pnp_promises.specs.Relations.{RelationsGoWithDriversLaw};
 ghost use Rattle.pnp_promises.specs.Searches.{SearchesKeepTheBudgetLaw};
 ghost use Rattle.pnp_promises.specs.StopOrder.{StoppedFromTheGreatestLaw};
 ghost use Rattle.pnp_promises.specs.TreeOrder.{TreeStandsLaw};
@@ -180,4 +181,9 @@ pub fn what_is_pended_waits()
 /// is cleared where drivers are chosen anew.
 pub fn only_the_named_device_changes()
     ensures { OnlyTheNamedDeviceChangesLaw }
+{}
+
+/// A step makes no relation, and unmakes those alone of which a device that loses its drivers was owner or member.
+pub fn relations_go_with_drivers()
+    ensures { RelationsGoWithDriversLaw }
 {}

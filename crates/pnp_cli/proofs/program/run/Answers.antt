@@ -1,5 +1,5 @@
 use Rattle.pnp_cli.specs.Words.{texts, settings_of}
-use Rattle.pnp_cli.proofs.Lawfulness.{output_tells, output_by_diagram, output_shares, output_holds_whole, output_restores, output_dependents, output_conflicts, output_begins, output_joins, output_told, output_keyed, output_acyclic, output_map_clear, output_stacks, output_names, output_remembers, output_holds_parts, output_inside_windows, output_handles, output_holds_few, output_shown, output_tree, output_promises, output_keeps, output_ends_told, output_of_machine, output_asks, output_hears, output_declines, output_notices, output_alone}
+use Rattle.pnp_cli.proofs.Lawfulness.{output_tells, output_by_diagram, output_shares, output_holds_whole, output_restores, output_dependents, output_conflicts, output_begins, output_joins, output_told, output_keyed, output_acyclic, output_map_clear, output_stacks, output_names, output_remembers, output_holds_parts, output_inside_windows, output_handles, output_holds_few, output_shown, output_tree, output_promises, output_keeps, output_ends_told, output_of_machine, output_asks, output_hears, output_declines, output_notices, output_clients, output_alone}
 use Rattle.pnp_cli.proofs.OwnTraces.{output_checks}
 use Rattle.pnp_cli.proofs.Answered.{all_answered}
 use Rattle.pnp_cli.proofs.OneOutput.{one_front}
@@ -100,6 +100,9 @@ returns-clause-all_hear_the_result g c = output_hears (texts c.args.words.now) (
 
 pub returns-clause-declined_by_a_client : goal.returns-clause-declined_by_a_client
 returns-clause-declined_by_a_client g c = output_declines (texts c.args.words.now) (g.F.Files.contents c.args.files.now) _
+
+pub returns-clause-clients : goal.returns-clause-clients
+returns-clause-clients g c = output_clients (texts c.args.words.now) (g.F.Files.contents c.args.files.now) _
 
 pub returns-clause-notices_keep_the_core : goal.returns-clause-notices_keep_the_core
 returns-clause-notices_keep_the_core g c = output_notices (texts c.args.words.now) (g.F.Files.contents c.args.files.now) _
