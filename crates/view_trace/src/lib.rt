@@ -1,4 +1,4 @@
-//! The trace of a run, drawn row by row beside a sequence diagram: one arrow for each ask; and what went wrong in it.
+//! The trace of a run, drawn row by row beside a sequence diagram: one arrow for each ask, one end for each completion; and what went wrong in it.
 #![tactic(auto)]
 
 mod arrow;

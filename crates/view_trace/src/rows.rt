@@ -1,7 +1,7 @@
 //! The rows of a trace, each beside its part of the diagram.
 ghost use Rattle.std.specs.Prelude.{◌≡◌, ◌++◌, ◌∷◌, [], OnOk};
 ghost use Rattle.pnp_labels.specs.Texts.{label_line};
-ghost use Rattle.view_trace.specs.Rows.{arrow_of, row_of, rows};
+ghost use Rattle.view_trace.specs.Rows.{arrow_of, end_of, row_of, rows};
 
 use crate::arrow::{draw_ask, draw_end, draw_notice};
 use crate::lanes::{Lanes, Party};
@@ -132,9 +132,11 @@ impl Rows {
         alloc: Global,
         page: &mut Page,
         label: &Label,
+        line: &[u8],
     ) -> Result<(), WantOfMemory>
+        requires line { line.now ≡ label_line label.now }
         ensures elements { OnOk result (page.new.elements ≡ page.old.elements) }
-        ensures marks { OnOk result (page.new.marks ≡ page.old.marks) }
+        ensures marks { OnOk result (page.new.marks ≡ page.old.marks ++ end_of label.now) }
         ensures waiting { self.new ≡ self.old }
     {
         if let Label::Notice { client, agrees, .. } = label {
@@ -142,12 +144,12 @@ impl Rows {
             return draw_notice(alloc, page, lane, *agrees);
         }
         match self.pends.completed(label) {
-            Some(end) => draw_end(alloc, page, end.lane, end.shown),
+            Some(end) => draw_end(alloc, page, line, end.lane, end.shown),
             None => Ok(()),
         }
     }
 
-    /// Draws what a label has in the diagram: an arrow, where it tells an ask.
+    /// Draws what a label has in the diagram: an arrow, where it tells an ask, an end, where it tells a completion.
     fn draw_part(
         &mut self,
         alloc: Global,
@@ -166,7 +168,7 @@ impl Rows {
                 self.pends.note(alloc, label, lane)?;
                 draw_ask(alloc, page, line, lane, asked.shown)
             }
-            None => self.draw_other(alloc, page, label),
+            None => self.draw_other(alloc, page, label, line),
         }
     }
 
