@@ -90,3 +90,14 @@ impl From<AllocError> for DriveError {
         DriveError::WantOfMemory
     }
 }
+
+impl From<DriveError> for Stop {
+    ghost use Rattle.std.specs.Prelude.{◌≡◌};
+    ghost use Rattle.live_run.specs.declared.stop.Stop.TheVariants.{Fault};
+
+    ghost from_gives = { λ from e. e ≡ Fault from };
+
+    fn from(error: DriveError) -> Self {
+        Stop::Fault(error)
+    }
+}
