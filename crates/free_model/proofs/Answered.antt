@@ -24,7 +24,7 @@ use Rattle.pnp_model.specs.Runs.Entry.{Happens, Did, Declines}
 use Rattle.pnp_model.proofs.Guards.{by_test, by_found, both_tests}
 use Rattle.free_model.specs.Asks.{Query, next_query}
 use Rattle.free_model.specs.Frees.{told, telling, with_rack, free_opening, new_driver}
-use Rattle.free_model.specs.Runs.{FreeRun, IsUntaught, and_then, without_teaching, EachFreeRunIsARun}
+use Rattle.free_model.specs.Runs.{FreeRun, IsUntaught, and_then, without_teaching, EachFreeRunIsARunLaw}
 use Rattle.free_model.proofs.Racks.{faces_told, tells}
 use Rattle.free_model.specs.Shapes.{Face, face, faces}
 use Rattle.free_model.proofs.TwinEvents.{find_map, changed_map, some_if, none_if}
@@ -288,7 +288,7 @@ built_book books k [] j d e = absurd (cc)
 built_book books k (kind ∷ kinds) zero d e = ap (λ (x : Driver). x.book) (sym (some_one (record { kind = kind; name = None; book = books k }) d e)) ∙ ap books (omega arith)
 built_book books k (kind ∷ kinds) (suc j) d e = built_book books (k + 1) kinds j d e ∙ ap books (omega arith)
 
-pub each_free_run : EachFreeRunIsARun
+pub each_free_run : EachFreeRunIsARunLaw
 each_free_run settings kinds earlier later mid last first rest =
     let on = answered settings (λ k. []) mid later last rest in
     let told_so = answered settings on.books (free_opening kinds) earlier mid first in

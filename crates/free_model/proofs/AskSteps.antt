@@ -36,7 +36,7 @@ use Rattle.pnp_model.specs.Tasks as tasks
 use Rattle.pnp_model.specs.Tasks.{begin_step, gone_child, joining, list_step, numbered, start_step}
 use Rattle.pnp_model.specs.Tests.{has, has_same, is_eject}
 use Rattle.pnp_model.specs.Walks.{has_ended, is_bad, walk_of}
-use Rattle.free_model.specs.Asking.{AsksSo, EachStepAsks, QuietAsksNobody, answered, is_ask, said}
+use Rattle.free_model.specs.Asking.{AsksSo, EachStepAsksLaw, QuietAsksNobodyLaw, answered, is_ask, said}
 use Rattle.free_model.specs.Asks.{Query, activity_query, acts_query, idle_query, job_query, next_query, next_removal, next_surprise, operation_query, phase_query, query_of, ready_query, stack_query, walk_query}
 use Rattle.free_model.proofs.Outs.{own_rack}
 use Rattle.free_model.proofs.Racks.{faces_of, same_names, shapes_after}
@@ -331,7 +331,7 @@ asks_so : (q : Option Query) (rack rack' : List Driver) (label : Label) â†’ Says
 asks_so None rack rack' label says own = (says, own)
 asks_so (Some q) rack rack' label says own = (says, own)
 
-pub each_step_asks : EachStepAsks
+pub each_step_asks : EachStepAsksLaw
 each_step_asks settings old label new h =
     let q : Option Query = next_query old in
     let own : List Driver = old.core.rack in
@@ -342,5 +342,5 @@ none_says : (q : Option Query) (rack : List Driver) (x : Option (Doing Step)) â†
 none_says q rack None h e = h
 none_says q rack (Some x) h e = absurd (cc)
 
-pub quiet_asks_nobody : QuietAsksNobody
+pub quiet_asks_nobody : QuietAsksNobodyLaw
 quiet_asks_nobody settings s h = none_says (next_query s) s.core.rack (next settings s) (of_next settings s s.operation) h

@@ -12,7 +12,7 @@ use Rattle.script_reader.specs.Script.{Trace, gives, waits, ends, stops}
 use Rattle.free_model.specs.Asks.{Query, next_query}
 use Rattle.free_model.specs.Frees.{told, with_rack, free_opening, new_driver}
 use Rattle.free_model.specs.Checks.{Place, Runs, Ends, Follow, bad_line, end_bytes}
-use Rattle.free_model.specs.Outputs.{Settles, text_of, end_text, MachinePrints, TeachesNone, EachRunIsAnOutput}
+use Rattle.free_model.specs.Outputs.{Settles, text_of, end_text, MachinePrints, TeachesNone, EachRunIsAnOutputLaw}
 use Rattle.free_model.proofs.Racks.{faces_told}
 use Rattle.free_model.proofs.Quiets.{quiet_same}
 use Rattle.free_model.proofs.Ways.{rack_by}
@@ -123,7 +123,7 @@ from_rest settings s script out quiet on = by_labels on.labels on.settles on.is
     by_labels [] (same, rests_now) is = subst (λ (x : State). MachinePrints settings x script out) same (subst (MachinePrints settings on.new script) (sym is) on.prints)
     by_labels (label ∷ labels) (mid, step, more) is = absurd (subst (λ (o : Option (Doing Step)). IsStep settings o (record { label = label; state = mid })) quiet step)
 
-pub each_run : EachRunIsAnOutput
+pub each_run : EachRunIsAnOutputLaw
 each_run settings kinds script out none (lines, follow, is) =
     let so = prints_so settings lines (free_opening kinds) script none follow in
     let rack : List Driver = build so.books 0 kinds in

@@ -22,7 +22,7 @@ use Rattle.script_reader.specs.Script.{Trace, gives, waits, ends, stops}
 use Rattle.free_model.specs.Frees.{told, with_rack, FreeSteps, new_driver, free_opening}
 use Rattle.free_model.specs.Shapes.{Shape, shape, shapes, AreOf, faces}
 use Rattle.free_model.specs.Checks.{Place, Runs, Ends, Follow, IsYes, bad_line, AllowsFirst, has_feed, end_bytes}
-use Rattle.free_model.specs.Outputs.{Settles, text_of, error_line, end_text, MachinePrints, EachOutputIsARun}
+use Rattle.free_model.specs.Outputs.{Settles, text_of, error_line, end_text, MachinePrints, EachOutputIsARunLaw}
 use Rattle.free_model.proofs.Racks.{faces_of, faces_told, same_names, same_told, replies_told, shapes_after}
 use Rattle.free_model.proofs.Alikes.{Alike, rests, does, searches}
 use Rattle.free_model.proofs.Ways.{Way, rack_by, reply_to, Agree}
@@ -234,7 +234,7 @@ begin_shapes (kind ∷ kinds) (d ∷ rack) (is, name, book, more) =
 begin_shapes [] (d ∷ rack) h = absurd h
 begin_shapes (kind ∷ kinds) [] h = absurd h
 
-pub each_output : EachOutputIsARun
+pub each_output : EachOutputIsARunLaw
 each_output settings kinds rack script out are prints =
     output_is_a_run settings script (free_opening kinds) (opening rack) out
     (record { rack = map new_driver kinds; is = refl; shape = begin_shapes kinds rack are }) refl prints

@@ -18,7 +18,7 @@ use Rattle.script_reader.specs.Script.{Trace, gives, waits, ends, stops}
 use Rattle.free_model.specs.Frees.{told, with_rack}
 use Rattle.free_model.specs.Checks.{IsOfMachine, Place, Runs, Ends, bad_line, has_feed, end_bytes, AllowsFirst, AllowsAtRest, Allows, Follow, Verdict, Yes, No}
 use Rattle.free_model.specs.Follows.{RightDoing, RightAt, AllRight, is_of_machine, Reached, reached, by_step, by_doing, by_reply, by_any, or_else, first_due, at_rest, while_running, follow, at_end, checked}
-use Rattle.free_model.specs.Laws.{IsRefused, ComputedLaw}
+use Rattle.free_model.specs.Laws.{IsRefused, ComputesVerdictsLaw}
 use Rattle.free_model.proofs.OneVerdict.{no_step}
 use Rattle.free_model.proofs.Computed.{follow_told, computed}
 
@@ -158,7 +158,7 @@ stopped settings place left number count (line ∷ lines) right e = by_line (fol
           counted = on.counted ∙ one_later (length on.before) number;
         }
 
-pub computed_verdict : ComputedLaw
+pub computed_verdict : ComputesVerdictsLaw
 computed_verdict settings here found lines Yes right e = computed settings here found 1 lines right e
 computed_verdict settings here found lines (No number) right e =
     let h = stopped settings here found 1 number lines right e in

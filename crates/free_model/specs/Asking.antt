@@ -38,11 +38,11 @@ AsksSo (Some q) rack label rack' =
     × (rack' ≡ rack_after q.what q.path rack q.driver)
 
 -- The law: each step asks whom it is to ask.
-abbrev pub EachStepAsks : Type 0
-EachStepAsks =
+abbrev pub EachStepAsksLaw : Type 0
+EachStepAsksLaw =
     (settings : Settings) (old : State) (label : Label) (new : State) → Steps settings old label new
     → AsksSo (next_query old) old.core.rack label new.core.rack
 
 -- The law: where no step is next nobody is to be asked.
-abbrev pub QuietAsksNobody : Type 0
-QuietAsksNobody = (settings : Settings) (s : State) → IsQuiet settings s → next_query s ≡ None
+abbrev pub QuietAsksNobodyLaw : Type 0
+QuietAsksNobodyLaw = (settings : Settings) (s : State) → IsQuiet settings s → next_query s ≡ None

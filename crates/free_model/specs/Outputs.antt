@@ -51,8 +51,8 @@ MachinePrints settings s (stops number) out = out ≡ error_line number ++ end_t
 MachinePrints settings s waits out = ⊥
 
 -- The law: the output of every script, for every rack of these kinds of which those that can be taught were taught nothing, is a run.
-abbrev pub EachOutputIsARun : Type 0
-EachOutputIsARun =
+abbrev pub EachOutputIsARunLaw : Type 0
+EachOutputIsARunLaw =
     (settings : Settings) (kinds : List DriverKind) (rack : List Driver) (script : Trace) (out : Text)
     → AreOf kinds rack → MachinePrints settings (opening rack) script out → IsYes settings (beginning kinds script) out
 
@@ -64,7 +64,7 @@ TeachesNone (stops number) = Unit {0}
 TeachesNone waits = Unit {0}
 
 -- The converse, for scripts that teach no driver: each trace that is a run is the output over some drivers of these kinds.
-abbrev pub EachRunIsAnOutput : Type 0
-EachRunIsAnOutput =
+abbrev pub EachRunIsAnOutputLaw : Type 0
+EachRunIsAnOutputLaw =
     (settings : Settings) (kinds : List DriverKind) (script : Trace) (out : Text) → TeachesNone script → IsYes settings (beginning kinds script) out
     → (rack : List Driver) × (map (λ d. d.kind) rack ≡ kinds) × MachinePrints settings (opening rack) script out

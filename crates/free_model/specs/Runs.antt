@@ -41,8 +41,8 @@ without_teaching (Declines label ∷ rest) = Declines label ∷ without_teaching
 -- Each run whatever the drivers answer is, but for books and what teaches them, one of the machine over drivers of these kinds, and
 -- so is what comes before and after a state of it. So what is said of nodes, relations and labels in every run, in each state and in
 -- each step, is said of these too.
-abbrev pub EachFreeRunIsARun : Type 0
-EachFreeRunIsARun =
+abbrev pub EachFreeRunIsARunLaw : Type 0
+EachFreeRunIsARunLaw =
     (settings : Settings) (kinds : List DriverKind) (earlier later : List Entry) (mid last : State)
     → FreeRun settings (free_opening kinds) earlier mid → FreeRun settings mid later last
     → (rack : List Driver) × (here : List Driver) × (there : List Driver) × (map (λ d. d.kind) rack ≡ kinds) × Run settings (opening rack) (without_teaching earlier) (with_rack here mid)

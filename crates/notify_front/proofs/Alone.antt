@@ -10,7 +10,7 @@ use Rattle.pnp_labels.specs.declared.event.Event.{Event}
 use Rattle.notify_front.specs.Fronts as fr
 use Rattle.notify_front.specs.Fronts.{Front, Hand, FrontEntry, FrontStep, IsFrontStep, Registration, opening_front, on_each, on_set}
 use Rattle.notify_front.specs.Notices.{FrontRun, FrontGoes}
-use Rattle.notify_front.specs.Laws.{HasNoClient, IsMachineAlone, AloneLaw}
+use Rattle.notify_front.specs.Laws.{HasNoClient, IsMachineAlone, SameWithoutClientsLaw}
 use Rattle.notify_front.proofs.Runs.{lifted_step}
 
 -- nobody is registered, and nothing is at hand
@@ -95,5 +95,5 @@ alone_run settings f (entry ∷ rest) g free (mid, goes, run) none =
     let next = alone_goes settings f entry mid rest free goes none in
     next.more (alone_run settings mid rest g next.free run (no_client_after entry rest none))
 
-pub machine_alone : AloneLaw
+pub machine_alone : SameWithoutClientsLaw
 machine_alone settings rack entries f run none = alone_run settings (opening_front (opening rack)) entries f (record { nobody = refl; hand = refl }) run none

@@ -16,7 +16,7 @@ use Rattle.pnp_labels.specs.declared.event.Event.{Event}
 use Rattle.notify_front.specs.Fronts as fr
 use Rattle.notify_front.specs.Fronts.{Front, Hand, FrontEntry, FrontStep, IsFrontStep, Registration, opening_front, on_set}
 use Rattle.notify_front.specs.Notices.{FrontRun, FrontGoes}
-use Rattle.notify_front.specs.Laws.{DeclinedLaw, asked, refused, cancelled}
+use Rattle.notify_front.specs.Laws.{DeclinedByAClientLaw, asked, refused, cancelled}
 use Rattle.notify_front.proofs.Runs as rn
 use Rattle.notify_front.proofs.Runs.{Fits, IsCalm, lifted_step, quiet_hand, running_calm}
 use Rattle.notify_front.proofs.Told.{Kept, Holds, Ends, kept_goes, opening_kept}
@@ -233,7 +233,7 @@ declines_hand settings entries f (Hand.Vetoed (r ∷ left)) fits declining step 
 declines_hand settings entries f (Hand.Ended []) fits declining step d h = no_machine settings entries f Hand.Nothing step d h
 declines_hand settings entries f (Hand.Ended (r ∷ left)) fits declining step d h = absurd (subst (λ (x : FrontStep). IsDecline x.entry) h d)
 
-pub declined_after : DeclinedLaw
+pub declined_after : DeclinedByAClientLaw
 declined_after settings rack entries f label g run goes =
     let opening_both : Both settings rack [] (opening_front (opening rack)) = record { kept = opening_kept settings rack; declining = tt } in
     let both = both_run settings rack [] (opening_front (opening rack)) entries f opening_both run in

@@ -4,7 +4,7 @@ use Rattle.pnp_model.specs.Records.{Driver, Settings, Doing}
 use Rattle.pnp_model.specs.Runs.{Entry}
 use Rattle.pnp_laws.proofs.RunsStep.{quiet_where_it_rests}
 use Rattle.notify_front.specs.Fronts.{Front, FrontEntry, FrontStep, FrontSteps, IsFrontQuiet, front_next}
-use Rattle.notify_front.specs.Laws.{AllOwn, IsOwn, RestLaw}
+use Rattle.notify_front.specs.Laws.{AllOwn, IsOwn, EachRunComesToRestLaw}
 use Rattle.notify_front.specs.Notices.{FrontGoes, FrontRun, machine_part}
 use Rattle.notify_front.proofs.FrontLeft.{front_steps_left, one_less, step_falls}
 use Rattle.notify_front.proofs.OneWay.{front_step_of, some_front_step}
@@ -69,7 +69,7 @@ front_rests zero settings rack entries f kept few = absurd (omega arith)
 front_rests (suc n) settings rack entries f kept few =
     rests_by settings rack entries f kept (λ more g kept_g less. front_rests n settings rack more g kept_g (omega arith)) (front_next settings f) refl
 
-pub each_rests : RestLaw
+pub each_rests : EachRunComesToRestLaw
 each_rests settings rack entries f run =
     let kept = reached_kept settings rack entries f run in
     let h = front_rests (suc (front_steps_left settings f)) settings rack entries f kept (omega arith) in

@@ -28,7 +28,7 @@ use Rattle.pnp_laws.proofs.RunsStand as st
 use Rattle.pnp_laws.proofs.Weights.{lighter_same}
 use Rattle.notify_front.specs.Fronts as fr
 use Rattle.notify_front.specs.Fronts.{Front, FrontEntry, FrontStep, FrontSteps, Hand, IsFrontQuiet, IsFrontStep, Registration, front_next, on_each, on_set, opening_front}
-use Rattle.notify_front.specs.Laws.{CountsFrontSteps, FrontStepsLeftLaw, IsOwn}
+use Rattle.notify_front.specs.Laws.{CountsFrontSteps, FrontStepsAreCountedLaw, IsOwn}
 use Rattle.notify_front.specs.Notices.{FrontRun}
 use Rattle.notify_front.proofs.OneWay.{front_step_of, one_front_step, some_front_step}
 use Rattle.notify_front.proofs.Runs.{Fits, IsReady, lifted_step}
@@ -300,7 +300,7 @@ pub front_left_falls : (settings : Settings) (rack : List Driver) (entries : Lis
 front_left_falls settings rack entries f g entry run steps =
     let e = one_less settings rack entries f (record { entry = entry; front = g }) (reached_kept settings rack entries f run) steps in omega arith
 
-pub steps_are_counted : FrontStepsLeftLaw
+pub steps_are_counted : FrontStepsAreCountedLaw
 steps_are_counted settings = (front_steps_left settings, counts)
   where
     counts : CountsFrontSteps settings (front_steps_left settings)

@@ -16,7 +16,7 @@ use Rattle.pnp_laws.proofs.EventChanges.{happens_outside}
 use Rattle.notify_front.specs.Fronts as fr
 use Rattle.notify_front.specs.Fronts.{Front, Hand, FrontEntry, FrontStep, IsFrontStep, IsFrontQuiet, Registration, on_set}
 use Rattle.notify_front.specs.Notices.{FrontRun, FrontGoes, machine_part}
-use Rattle.notify_front.specs.Laws.{AllHeard, HeardOnceLaw, cancelled, completed, results}
+use Rattle.notify_front.specs.Laws.{AllHeard, EachHearsOnceLaw, cancelled, completed, results}
 use Rattle.notify_front.proofs.Runs.{lifted_step, part_goes, due_begins}
 use Rattle.notify_front.proofs.Told.{Kept, Works, kept_goes, reached_kept, works_on, works_begun, works_answered, way_of, event_hand, began, running_run, forced, ended}
 
@@ -150,7 +150,7 @@ end_hand settings rack entries [] during g h i kind path result kept works at ru
 end_hand settings rack entries (r ∷ told) during g h i kind path result kept works at run within ends =
     ended settings h (r ∷ told) kind path result i (running_run settings g (r ∷ told) during h at run within) ends
 
-pub each_hears : HeardOnceLaw
+pub each_hears : EachHearsOnceLaw
 each_hears settings rack earlier during more f g h i j label first kind path result run begins is_due told within_run within ends after quiet =
     let kept = reached_kept settings rack earlier f run in
     let told_of = on_set f first.serial in

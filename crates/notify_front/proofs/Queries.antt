@@ -12,7 +12,7 @@ use Rattle.free_model.specs.Asks.{Query, idle_query, next_query, query_of}
 use Rattle.free_model.proofs.AskSteps.{each_step_asks}
 use Rattle.notify_front.specs.Fronts.{Front, FrontEntry, FrontStep, FrontSteps, Hand, IsFrontStep, Registration, ask_next, ask_one, begin_next, cancel_next, front_next, front_printed, hand_next, idle_next, lifted, machine_next, on_set, running}
 use Rattle.notify_front.specs.Hands.{AllAgreed, AllCancelled, IsRunning, IsTurn, next_told}
-use Rattle.notify_front.specs.Queries.{EachFrontStepAsks, front_query, hand_query}
+use Rattle.notify_front.specs.Queries.{EachFrontStepAsksLaw, front_query, hand_query}
 use Rattle.notify_front.specs.declared.round.Turn.{Turn}
 
 -- By what is at hand ----------------------------------------------------------------------
@@ -124,5 +124,5 @@ module _ (settings : Settings) (f : Front) (entry : FrontEntry) (new : Front) wh
   of_hand (Hand.Ended []) h = machine_asks settings f Hand.Nothing entry new h
   of_hand (Hand.Ended (r ∷ left)) h = own_asks settings f None _ entry new refl (refl, refl) h
 
-pub each_front_step_asks : EachFrontStepAsks
+pub each_front_step_asks : EachFrontStepAsksLaw
 each_front_step_asks settings old entry new h = of_hand settings old entry new old.hand h

@@ -20,9 +20,9 @@ use Rattle.pnp_labels.specs.Texts.{Text}
 use Rattle.notify_front.specs.Fronts as fr
 use Rattle.notify_front.specs.Fronts.{Front, Hand, FrontEntry, FrontStep, Answered, IsFrontStep, IsFrontQuiet, Registration, opening_front}
 use Rattle.notify_front.specs.Notices.{FrontRun, FrontGoes, machine_part}
-use Rattle.notify_front.specs.Laws.{MachineRunLaw, KeepsCoreLaw, DueLaw, IsTold}
+use Rattle.notify_front.specs.Laws.{RunsTheMachineLaw, NoticesKeepTheCoreLaw, DueBeginsLaw, IsTold}
 
-pub due_begins : DueLaw
+pub due_begins : DueBeginsLaw
 due_begins settings s first h =
     let is = due_is_first s first h in
     (begin_step s first.kind first.serial (node_at first.serial s.core.nodes), first_begins settings s first is, is.begins)
@@ -267,7 +267,7 @@ runs_on settings f (entry ∷ rest) g (mid, goes, run) fits =
     let more = runs_on settings mid rest g run part.fits in
     record { run = on_with settings f.state entry mid.state rest g.state part.goes more.run; fits = more.fits }
 
-pub machine_run : MachineRunLaw
+pub machine_run : RunsTheMachineLaw
 machine_run settings rack entries f run = (runs_on settings (opening_front (opening rack)) entries f run tt).run
 
 core_stays : (settings : Settings) (s : State) (entry : FrontEntry) (t : State) → MachineGoes settings s entry t → IsTold entry → t.core ≡ s.core
@@ -277,6 +277,6 @@ core_stays settings s (FrontEntry.Passes (Entry.Declines label)) t goes told = a
 core_stays settings s (FrontEntry.Watches event label) t goes told = absurd told
 core_stays settings s (FrontEntry.Tells label) t goes told = ap (λ (x : State). x.core) goes
 
-pub keeps_core : KeepsCoreLaw
+pub keeps_core : NoticesKeepTheCoreLaw
 keeps_core settings rack entries f entry g run goes told =
     core_stays settings f.state entry g.state (part_goes settings f entry g (runs_on settings (opening_front (opening rack)) entries f run tt).fits goes).goes told

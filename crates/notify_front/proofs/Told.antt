@@ -24,7 +24,7 @@ use Rattle.pnp_laws.proofs.EventChanges.{Answered, happens_outside}
 use Rattle.notify_front.specs.Fronts as fr
 use Rattle.notify_front.specs.Fronts.{Front, Hand, FrontEntry, FrontStep, IsFrontStep, IsFrontQuiet, Registration, opening_front, on_set}
 use Rattle.notify_front.specs.Notices.{FrontRun, FrontGoes, machine_part}
-use Rattle.notify_front.specs.Laws.{AskedLaw, HeardLaw, asked, cancelled, completed, results, StartsWith, is_told_of}
+use Rattle.notify_front.specs.Laws.{AsksAllBeforeLaw, AllHearTheResultLaw, asked, cancelled, completed, results, StartsWith, is_told_of}
 use Rattle.notify_front.proofs.Runs as rn
 use Rattle.notify_front.proofs.Runs.{Fits, IsCalm, IsReady, IsQuietFront, Part, Beside, lifted_step, part_goes, quiet_hand, running_calm, watch_at, unwatch_at, due_begins}
 
@@ -389,7 +389,7 @@ in_order_told OpKind.Finish h = absurd (cc)
 in_order_told OpKind.Change h = absurd (cc)
 in_order_told OpKind.Surprise h = absurd (cc)
 
-pub all_asked : AskedLaw
+pub all_asked : AsksAllBeforeLaw
 all_asked settings rack entries f label g first run goes is_due in_order =
     (began settings rack entries f label g first (reached_kept settings rack entries f run) goes is_due (in_order_told first.kind in_order)).asked_all in_order
 
@@ -495,7 +495,7 @@ told_hear settings [] during more g h i j kind path result at run within ends af
 told_hear settings (r ∷ told) during more g h i j kind path result at run within ends after =
     end_hear settings i result (r ∷ told) more j (ended settings h (r ∷ told) kind path result i (running_run settings g (r ∷ told) during h at run within) ends) after
 
-pub all_hear : HeardLaw
+pub all_hear : AllHearTheResultLaw
 all_hear settings rack earlier during more f g h i j label first kind path result run begins is_due told within_run within ends after =
     let at = (began settings rack earlier f label g first (reached_kept settings rack earlier f run) begins is_due told).hand in
     told_hear settings (on_set f first.serial) during more g h i j kind path result at within_run within ends after

@@ -20,7 +20,7 @@ abbrev pub front_query : Front → Option Query
 front_query f = hand_query f.state f.hand
 
 -- The law: each step asks whom it is to ask.
-abbrev pub EachFrontStepAsks : Type 0
-EachFrontStepAsks =
+abbrev pub EachFrontStepAsksLaw : Type 0
+EachFrontStepAsksLaw =
     (settings : Settings) (old : Front) (entry : FrontEntry) (new : Front) → FrontSteps settings old entry new
     → AsksSo (front_query old) old.state.core.rack (front_printed entry) new.state.core.rack

@@ -14,7 +14,7 @@ use Rattle.trace_check.specs.declared.check.Checked.{Checked}
 use Rattle.pnp_cli.specs.Checks.{ComesTo, GivesFile, GivesOutcome, Outcome, file_in}
 use Rattle.pnp_cli.specs.Contents.{events_of}
 use Rattle.pnp_cli.specs.Infs.{SomeRose}
-use Rattle.pnp_cli.specs.Runs.{VerdictLaw}
+use Rattle.pnp_cli.specs.Runs.{ExactlyOneVerdictLaw}
 use Rattle.pnp_cli.specs.declared.infs.InfsError.{InfsError}
 use Rattle.pnp_cli.specs.declared.infs.InfsError.TheVariants.{ReadFault, TooLarge, Refused, WantOfMemory}
 use Rattle.pnp_cli.proofs.SomeVerdict.{some_verdict}
@@ -74,7 +74,7 @@ outcome_passed (Err e) error contents Is h given =
 
 -- There is one verdict ------------------------------------------------------------------------
 
-pub exactly_one_verdict : VerdictLaw
+pub exactly_one_verdict : ExactlyOneVerdictLaw
 exactly_one_verdict settings kinds script trace =
     let some = some_verdict settings (beginning kinds (events_of script)) trace in
     (some.0, some.1, λ other is. one_verdict settings (beginning kinds (events_of script)) trace other some.0 is some.1)

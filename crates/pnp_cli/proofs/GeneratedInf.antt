@@ -13,7 +13,7 @@ use Rattle.inf_reader.specs.Symbols.{bare, trimmed, trimmed_bytes}
 use Rattle.inf_reader.specs.Text.{from_utf8_or_latin1, text_of}
 use Rattle.inf_reader.specs.Tokens.{replaced}
 use Rattle.pnp_cli.specs.Generated.{gen_inf}
-use Rattle.pnp_cli.specs.GeneratedLaws.{InfLaw}
+use Rattle.pnp_cli.specs.GeneratedLaws.{GeneratedInfIsAcceptedLaw}
 use lib.Utf8.{encode}
 
 accepted : (r : Result Inf InfError) → is_ok r ≡ true → (made : Inf) × (r ≡ Ok made)
@@ -24,5 +24,5 @@ inf_is_accepted : is_ok (inf gen_inf) ≡ true
 unfolding gen_inf inf meaning_of meaning_by items_of text_of from_utf8_or_latin1 is_utf8 chars encode trimmed header_of entry_of key_of trimmed_bytes replaced bare cut_at utf16_chars
 inf_is_accepted = refl
 
-pub generated_inf : InfLaw
+pub generated_inf : GeneratedInfIsAcceptedLaw
 generated_inf = accepted (inf gen_inf) inf_is_accepted

@@ -11,7 +11,7 @@ use Rattle.script_reader.specs.Script.{Meaning, nothing, means, bad, whole_line,
 use Rattle.script_reader.proofs.Scripts.{IsOne, trace_line}
 use Rattle.pnp_cli.specs.Contents.{answer_of, decided_of, script_status}
 use Rattle.pnp_cli.specs.Generated.{device_line, device_lines, gen_script, head, line}
-use Rattle.pnp_cli.specs.GeneratedLaws.{ScriptLaw}
+use Rattle.pnp_cli.specs.GeneratedLaws.{GeneratedScriptEndsLaw}
 use Rattle.pnp_cli.specs.Infs.{limit}
 use Rattle.pnp_cli.specs.declared.status.Status.{Status}
 use Rattle.pnp_cli.proofs.GoodLines.{device_good, device_text, has_feed, is_event, is_good}
@@ -91,5 +91,5 @@ script_ends text most h small =
     let end = h.goes 0 [] in
     ap Some (ap answer_of (decided_whole text low) ∙ ap (λ (x : List ℕ). answer_of (trace true 0 x)) (sym (append-nil text)) ∙ end.1)
 
-pub generated_script : ScriptLaw
+pub generated_script : GeneratedScriptEndsLaw
 generated_script n low = script_ends (gen_script n) (384 + 128 * n) (fine_script n low) (omega (arith, low))

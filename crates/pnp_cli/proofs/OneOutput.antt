@@ -22,7 +22,7 @@ use Rattle.pnp_cli.specs.Infs.{infs_in, refusal_line}
 use Rattle.pnp_cli.specs.Outputs.{Settles, Follows, Plays, Report, Shows, written}
 use Rattle.pnp_cli.specs.Generated.{gen_script, gen_inf}
 use Rattle.pnp_cli.specs.Summaries.{summary}
-use Rattle.pnp_cli.specs.Runs.{IsOnly, IsOutput, IsOutputBy, IsOutputFor, IsOutputWith, IsScriptOutput, IsSummaryBy, IsVerdict, OutputLaw, WroteFront, WroteOneFront, machine, told_to}
+use Rattle.pnp_cli.specs.Runs.{IsOnly, IsOutput, IsOutputBy, IsOutputFor, IsOutputWith, IsScriptOutput, IsSummaryBy, IsVerdict, ExactlyOneOutputLaw, WroteFront, WroteOneFront, machine, told_to}
 use Rattle.pnp_cli.specs.declared.infs.InfsError.{InfsError}
 use Rattle.pnp_cli.specs.declared.infs.InfsError.TheVariants as faults
 use Rattle.pnp_cli.specs.declared.parts.Settings.{Settings}
@@ -113,7 +113,7 @@ one_shown settings rack script report =
     let shows : Shows settings (opening_front (opening rack)) (events_of script) report text = (some.0, some.1, some.2, refl) in
     (text, (shows, λ other h. shows_one settings (opening_front (opening rack)) (events_of script) report text other shows h))
 
-pub exactly_one_output : OutputLaw
+pub exactly_one_output : ExactlyOneOutputLaw
 exactly_one_output settings rack script = one_shown settings rack script (written (events_of script))
 
 -- The output of a command -----------------------------------------------------------------

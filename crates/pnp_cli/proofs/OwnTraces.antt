@@ -18,7 +18,7 @@ use Rattle.pnp_cli.specs.Checks.{ComesTo, file_in, verdict_line}
 use Rattle.pnp_cli.specs.Infs.{infs_in, limit}
 use Rattle.pnp_cli.specs.Lawful.{OfOutput}
 use Rattle.pnp_cli.specs.Outputs.{HasNoClients, Prints, Report, Shows}
-use Rattle.pnp_cli.specs.OwnTraces.{ChecksYes, IsUntaught, NoClientsLaw, OwnCheckLaw, OwnTraceLaw}
+use Rattle.pnp_cli.specs.OwnTraces.{ChecksYes, IsUntaught, NoTraceHasClientsLaw, EachOutputIsCheckedLaw, EachOutputIsATraceLaw}
 use Rattle.pnp_cli.specs.Runs.{IsOutput, IsOutputBy, IsOutputFor, IsOutputWith, IsScriptOutput, IsVerdict, machine}
 use Rattle.pnp_cli.specs.declared.infs.InfsError.{InfsError}
 use Rattle.pnp_cli.specs.declared.parts.Settings.{Settings}
@@ -30,7 +30,7 @@ own_trace_of : (settings : machines.Settings) (rack : List Driver) (t : Trace) (
 own_trace_of settings rack t text none untaught prints =
     each_output settings (map (λ d. d.kind) rack) rack t text untaught (machine_prints settings (opening rack) t text none prints)
 
-pub own_trace : OwnTraceLaw
+pub own_trace : EachOutputIsATraceLaw
 own_trace settings rack script text none untaught prints = own_trace_of settings rack (events_of script) text none untaught prints
 
 pub output_checks : (words : List Text) (contents : Option (Text → Option (List ℕ))) (rack : List Driver) → OfOutput ChecksYes words contents rack
@@ -53,7 +53,7 @@ no_clients settings (line ∷ lines) s (stops number) (mid, inr (quiet, rest), f
 no_clients settings (line ∷ lines) s ends (mid, inr (quiet, rest), follow) = tt
 no_clients settings (line ∷ lines) s waits (mid, inr (quiet, rest), follow) = absurd rest
 
-pub without_clients : NoClientsLaw
+pub without_clients : NoTraceHasClientsLaw
 without_clients settings kinds script trace run = no_clients settings run.0 (free_opening kinds) (events_of script) run.1
 
 -- A later command ------------------------------------------------------------------------------
@@ -88,7 +88,7 @@ shown_by other later t infs trace again text script checks named taken bytes the
     let verdict : IsVerdict other later t trace t.script (Ok Yes) = subst (λ (n : Option Text). IsVerdict other later t trace n (Ok Yes)) (sym named) of_infs in
     subst (λ (c : Option Text). IsOutputWith other later t c (verdict_line Yes)) (sym checks) (Ok Yes, verdict, refl)
 
-pub own_check : OwnCheckLaw
+pub own_check : EachOutputIsCheckedLaw
 own_check rack told s other later t text command none untaught is =
     let prints = written_by rack told s command.infs command.name command.script text command.runs command.named command.taken command.there is in
     let run : IsChecked (machine command.infs s.budget) (beginning (map (λ d. d.kind) rack) (events_of command.script)) text Yes =

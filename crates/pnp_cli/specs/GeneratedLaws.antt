@@ -7,9 +7,9 @@ use Rattle.pnp_cli.specs.Generated.{gen_inf, gen_script}
 use Rattle.pnp_cli.specs.declared.status.Status.{Status}
 
 -- the generated INF is accepted
-abbrev pub InfLaw : Type 0
-InfLaw = (made : Inf) × (inf gen_inf ≡ Ok made)
+abbrev pub GeneratedInfIsAcceptedLaw : Type 0
+GeneratedInfIsAcceptedLaw = (made : Inf) × (inf gen_inf ≡ Ok made)
 
 -- a generated script has no bad line and is not too large: it is run to its end
-abbrev pub ScriptLaw : Type 0
-ScriptLaw = (n : ℕ) → n ≤ 400 → script_status (Some (gen_script n)) ≡ Some Status.Done
+abbrev pub GeneratedScriptEndsLaw : Type 0
+GeneratedScriptEndsLaw = (n : ℕ) → n ≤ 400 → script_status (Some (gen_script n)) ≡ Some Status.Done

@@ -28,14 +28,14 @@ ChecksYes settings rack t report text =
     report ≡ written t → HasNoClients t → IsUntaught rack → IsChecked settings (beginning (map (λ d. d.kind) rack) t) text Yes
 
 -- it is so for every script
-abbrev pub OwnTraceLaw : Type 0
-OwnTraceLaw =
+abbrev pub EachOutputIsATraceLaw : Type 0
+EachOutputIsATraceLaw =
     (settings : machines.Settings) (rack : List Driver) (script : List ℕ) (text : Text) → HasNoClients (events_of script) → IsUntaught rack
     → Prints settings (opening_front (opening rack)) (events_of script) text → IsChecked settings (beginning (map (λ d. d.kind) rack) (events_of script)) text Yes
 
 -- and where a line of the script is one of a client, no trace is a run of it: the check knows no clients
-abbrev pub NoClientsLaw : Type 0
-NoClientsLaw =
+abbrev pub NoTraceHasClientsLaw : Type 0
+NoTraceHasClientsLaw =
     (settings : machines.Settings) (kinds : List DriverKind) (script trace : List ℕ) → IsChecked settings (beginning kinds (events_of script)) trace Yes → HasNoClients (events_of script)
 
 -- A command runs a script that is there, with INFs that are taken, and a later one checks this text as its trace: with the same INFs, budget
@@ -61,8 +61,8 @@ pub record ChecksOutput (rack : List Driver) (told : Text → Option (List ℕ))
   pub same_kinds : map (λ d. d.kind) other ≡ map (λ d. d.kind) rack
 
 -- then the output of the later one is the line `yes`, where no line of the script is one of a client and the drivers of the first were taught nothing
-abbrev pub OwnCheckLaw : Type 0
-OwnCheckLaw =
+abbrev pub EachOutputIsCheckedLaw : Type 0
+EachOutputIsCheckedLaw =
     (rack : List Driver) (told : Text → Option (List ℕ)) (s : Settings) (other : List Driver) (later : Text → Option (List ℕ)) (t : Settings) (text : Text)
     → (command : ChecksOutput rack told s other later t text) → HasNoClients (events_of command.script) → IsUntaught rack
     → IsOutput rack told s text → IsOutput other later t (verdict_line Yes)

@@ -160,15 +160,15 @@ abbrev pub WroteOneFront : (Text → Type 0) → Option Text → Option Text →
 WroteOneFront output old new = (text : Text) × IsOnly output text × AppendsFront old new text
 
 -- whatever the settings and the kinds of drivers, each trace has one verdict for a script and no other
-abbrev pub VerdictLaw : Type 0
-VerdictLaw =
+abbrev pub ExactlyOneVerdictLaw : Type 0
+ExactlyOneVerdictLaw =
     (settings : machines.Settings) (kinds : List DriverKind) (script trace : List ℕ)
     → (v : Verdict) × IsChecked settings (beginning kinds (events_of script)) trace v
     × ((other : Verdict) → IsChecked settings (beginning kinds (events_of script)) trace other → other ≡ v)
 
 -- whatever the settings and the rack, each script has one output and no other
-abbrev pub OutputLaw : Type 0
-OutputLaw = (settings : machines.Settings) (rack : List Driver) (script : List ℕ) → (text : Text) × IsOnly (Prints settings (opening_front (opening rack)) (events_of script)) text
+abbrev pub ExactlyOneOutputLaw : Type 0
+ExactlyOneOutputLaw = (settings : machines.Settings) (rack : List Driver) (script : List ℕ) → (text : Text) × IsOnly (Prints settings (opening_front (opening rack)) (events_of script)) text
 
 -- where no count rose, the answer is one that is decided, or want of memory
 abbrev pub Answers : (Status → Type 0) → Type 0 → Type 0 → Status → Type 0

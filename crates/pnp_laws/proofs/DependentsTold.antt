@@ -8,7 +8,7 @@ use Rattle.pnp_model.specs.Records.{Core, Node, State, Job, Stage, Course, cours
 use Rattle.pnp_model.specs.Tests.{has, is_surprise_removed}
 use Rattle.pnp_model.specs.Trees.{direct, hangs_on}
 use Rattle.pnp_laws.specs.Kept.{Ascending, Within}
-use Rattle.pnp_laws.specs.Waiting.{DependentsTold, DependentsToldLaw, NeitherRuns, Told, IsNeither}
+use Rattle.pnp_laws.specs.Waiting.{DependentsTold, DependentsAreToldLaw, NeitherRuns, Told, IsNeither}
 use Rattle.pnp_laws.proofs.Closures.{Closed, closed_within, hangs_some, those_serial}
 use Rattle.pnp_laws.proofs.Lists.{those_found}
 use Rattle.pnp_laws.proofs.Lookups.{some_same}
@@ -63,7 +63,7 @@ told_beside (Some o) c neither told = told_in (course_of o.kind) o c neither tol
 pub kept_told : (s : State) → Kept s → NeitherRuns s.operation → Told s.core
 kept_told s kept neither = told_beside s.operation s.core neither kept.waits.told
 
-pub dependents_are_told : DependentsToldLaw
+pub dependents_are_told : DependentsAreToldLaw
 dependents_are_told settings rack entries s run neither =
     let kept = reaches_kept settings rack entries s run in
     told_dependents s.core kept.good.serials (kept_told s kept neither)

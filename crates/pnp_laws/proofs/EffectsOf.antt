@@ -7,7 +7,7 @@ use Rattle.pnp_model.specs.Records.{Duty, Settings, State, Step}
 use Rattle.pnp_model.specs.Tests.{is_surprise_task}
 use Rattle.pnp_model.proofs.Due.{due_is_first}
 use Rattle.pnp_model.specs.Runs.Entry.{Happens, Did, Declines}
-use Rattle.pnp_laws.specs.Effects.{ActivityEffect, DriverEffect, Effect, EffectLaw, HandleEffect, IsUnasked, JoinEffect, NodeEffect, OpEffect, PathEffect, RangeEffect, TaskEffect, WindowEffect, WorldEffect}
+use Rattle.pnp_laws.specs.Effects.{ActivityEffect, DriverEffect, Effect, EachStepHasAnEffectLaw, HandleEffect, IsUnasked, JoinEffect, NodeEffect, OpEffect, PathEffect, RangeEffect, TaskEffect, WindowEffect, WorldEffect}
 use Rattle.pnp_laws.specs.Words.{IsBeside, IsNoJoin, joined}
 use Rattle.pnp_laws.proofs.EffectsOfEvents.{Happened, event_effect}
 use Rattle.pnp_laws.proofs.EffectsOfOperations.{operation_effect}
@@ -49,7 +49,7 @@ declined s label t declines =
     in_order _ h is = cc
 
 -- and so has each event
-pub effect_goes : EffectLaw
+pub effect_goes : EachStepHasAnEffectLaw
 effect_goes settings s (Happens event label) t goes = subst (λ (x : Step). Happened s event x) goes.1 (event_effect s event)
 effect_goes settings s (Did label) t goes = effect_of settings s label t goes
 effect_goes settings s (Declines label) t goes = declined s label t goes

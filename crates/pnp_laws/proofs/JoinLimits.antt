@@ -12,7 +12,7 @@ use Rattle.pnp_labels.specs.declared.event.Event.{Event}
 use Rattle.pnp_labels.specs.declared.label.Label.{Label}
 use Rattle.pnp_labels.specs.declared.label.OpKind.{OpKind}
 use Rattle.pnp_laws.specs.Words.{IsWord, joined}
-use Rattle.pnp_laws.specs.Ends.{AllSteps, events, joins, starts_one, waiting_starts, JoinsLaw, FewJoinLaw}
+use Rattle.pnp_laws.specs.Ends.{AllSteps, events, joins, starts_one, waiting_starts, JoinsAreLimitedLaw, FewJoinLaw}
 use Rattle.pnp_laws.specs.Effects.{CommandEffect}
 use Rattle.pnp_laws.specs.Kept.{IsGood}
 use Rattle.pnp_laws.proofs.EventChanges.{Answered, Outside, happens_outside, still_serial}
@@ -242,7 +242,7 @@ opening_price rack = refl
 limited_opening : (rack : List Driver) → Limited (opening rack)
 limited_opening rack = record { kept = opening_kept rack; born = opening_born rack }
 
-pub joins_are_limited : JoinsLaw
+pub joins_are_limited : JoinsAreLimitedLaw
 joins_are_limited settings rack entries s run =
     let h = run_price settings (opening rack) entries s (limited_opening rack) run in
     let z = opening_price rack in

@@ -13,7 +13,7 @@ use Rattle.pnp_model.specs.Records.{Driver, Settings, State}
 use Rattle.pnp_model.specs.Runs.{Entry, Run, opening}
 use Rattle.pnp_model.specs.Runs.Entry.{Happens}
 use Rattle.pnp_laws.specs.Effects.{DriverEffect}
-use Rattle.pnp_laws.specs.Printed.{GivenLaw, IsGiven}
+use Rattle.pnp_laws.specs.Printed.{NamesAreGivenLaw, IsGiven}
 use Rattle.pnp_laws.specs.Reached.{IsReached}
 use Rattle.pnp_laws.specs.Stacks.{HasName}
 use Rattle.pnp_laws.proofs.DriverNames.{SameNames, changed_given, names_after}
@@ -58,5 +58,5 @@ given_run settings rack old (entry ∷ rest) new reached (mid, goes, run) d name
       | inr gives ↦ inr (given_later entry rest name gives)
     ]
 
-pub names_are_given : GivenLaw
+pub names_are_given : NamesAreGivenLaw
 names_are_given settings rack entries s run d name h = given_run settings rack (opening rack) entries s ([], refl) run d name h

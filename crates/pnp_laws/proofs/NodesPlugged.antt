@@ -29,7 +29,7 @@ use Rattle.pnp_laws.specs.Words.{spared_in}
 use Rattle.pnp_laws.specs.Effects.{AnswerEffect, BeginsFor, NodeEffect, OpEffect, OperationEffect, SameWork, WorldEffect, begun, required}
 use Rattle.pnp_laws.specs.Held.{AreWithin}
 use Rattle.pnp_laws.specs.Kept.{Ascending, IsGood, TargetFits}
-use Rattle.pnp_laws.specs.Needs.{IsChanged, IsEntryWithin, IsPlugged, IsRoot, IsSaid, NeedsLaw, PluggedLaw}
+use Rattle.pnp_laws.specs.Needs.{IsChanged, IsEntryWithin, IsPlugged, IsRoot, IsSaid, NeedsAreWithinLaw, NodesArePluggedLaw}
 use Rattle.pnp_laws.proofs.EffectViews.{Origin, origin}
 use Rattle.pnp_laws.proofs.EffectsOf.{effect_goes}
 use Rattle.pnp_laws.proofs.FitsBy.{rebalance_fits}
@@ -475,7 +475,7 @@ said_along entries entry =
     changed born path hw compat first by reqs label is names up (inr (inl plugged)) = said_changed entries entry path hw compat first by reqs label is names plugged
     changed born path hw compat first by reqs label is names up (inr (inr before)) = said_changed entries entry path hw compat before.first by reqs label is names (changed_plugged entries path hw compat first before)
 
-pub nodes_are_plugged : PluggedLaw
+pub nodes_are_plugged : NodesArePluggedLaw
 nodes_are_plugged settings rack entries s run k n at =
     let says = says_all Said said_along settings rack entries s run (inl (refl, record { path_is = refl; hw_is = refl; compat_is = refl; reqs_are = refl })) k n at in
     (says.0, elim says.1 [ inl (zero, root) ↦ inl root | inr said ↦ inr said ], says.2)
@@ -499,7 +499,7 @@ clip_within most rooms (x ∷ reqs) within list there =
       | inr later ↦ clip_within most rooms reqs (λ l h. within l (Contains-append_right (x ∷ []) reqs l h)) list later
     ]
 
-pub needs_are_within : NeedsLaw
+pub needs_are_within : NeedsAreWithinLaw
 needs_are_within settings rack entries s run most within k n at =
     let (said, is, clipped) = nodes_are_plugged settings rack entries s run k n at in
     subst (λ (x : Reqs). AreWithin most x) (sym clipped) (clip_within most (room s.windows s.core.nodes n.parent) said (said_within most entries within n.path n.hw n.compat said is))

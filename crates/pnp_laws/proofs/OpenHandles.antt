@@ -8,7 +8,7 @@ use Rattle.pnp_model.specs.Records.{Driver, Handle, Settings, State}
 use Rattle.pnp_model.specs.Runs.{Entry}
 use Rattle.pnp_laws.specs.Effects.{HandleEffect}
 use Rattle.pnp_laws.specs.Reached.{IsReached}
-use Rattle.pnp_laws.specs.Waiting.{HandlesInOrder, HandlesLaw}
+use Rattle.pnp_laws.specs.Waiting.{HandlesInOrder, OpenHandlesFitLaw}
 use Rattle.pnp_laws.proofs.EffectsOf.{effect_goes}
 use Rattle.pnp_laws.proofs.Reaching.{kept}
 use Rattle.pnp_laws.proofs.RunsStand.{reaches_kept}
@@ -61,5 +61,5 @@ in_order_run : (settings : Settings) (rack : List Driver) (s : State) → IsReac
 in_order_run settings rack s reached =
     kept (λ (x : State). HandlesInOrder 0 x.handles) settings rack (λ old entry new from h goes. order_goes old entry new (effect_goes settings old entry new goes).handles h) tt s reached
 
-pub open_handles_fit : HandlesLaw
+pub open_handles_fit : OpenHandlesFitLaw
 open_handles_fit settings rack entries s run = record { held = (reaches_kept settings rack entries s run).waits.held; order = in_order_run settings rack s (entries, run) }

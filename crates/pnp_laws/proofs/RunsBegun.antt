@@ -9,7 +9,7 @@ use Rattle.pnp_labels.specs.declared.states.Problem.{Problem}
 use Rattle.pnp_labels.specs.declared.label.Label.{Label}
 use Rattle.pnp_labels.specs.declared.label.OpKind.{OpKind}
 use Rattle.pnp_laws.specs.Words.{IsWord, NotTwelve, IsBeside}
-use Rattle.pnp_laws.specs.Begun.{HasBegun, Belongs, BegunLaw}
+use Rattle.pnp_laws.specs.Begun.{HasBegun, Belongs, OperationsBeginLaw}
 use Rattle.pnp_laws.proofs.Reaching.{run_on}
 use Rattle.pnp_laws.specs.Effects.{SameWork, begun}
 use Rattle.pnp_laws.proofs.Courses.{Way, way_goes}
@@ -135,6 +135,6 @@ belongs_way settings rack entries s label t (Way.goes o p runs after work (inr (
 belongs_way settings rack entries s label t (Way.ends o result runs after is by) h = subst (λ (x : Label). Belongs settings rack entries s x) (sym is) (h o runs)
 
 -- where an operation ends or prints problem 12, it began before and has not ended since
-pub operations_begin : BegunLaw
+pub operations_begin : OperationsBeginLaw
 operations_begin settings rack entries s entry t reaches goes =
     belongs_way settings rack entries s (printed entry) t (way_goes settings s entry t (reached_fine settings rack s (entries, reaches)) goes) (runs_begun settings rack entries s reaches)

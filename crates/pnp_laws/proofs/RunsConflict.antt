@@ -12,7 +12,7 @@ use Rattle.pnp_model.specs.Frames.{held_by, is_beside, fixed_beside}
 use Rattle.pnp_model.specs.Rebalances.{is_asked, reqs_of, trouble_of}
 use Rattle.pnp_model.specs.Runs.{Entry, Goes, Run}
 use Rattle.pnp_model.specs.Runs.Entry.{Did}
-use Rattle.pnp_model.specs.Laws.{Reaches, AllWithin, Refuses, RefusedSince, StaysSince, AreFree, NothingFits, ConflictLaw}
+use Rattle.pnp_model.specs.Laws.{Reaches, AllWithin, Refuses, RefusedSince, StaysSince, AreFree, NothingFits, ConflictsAreRealLaw}
 use Rattle.pnp_labels.specs.Texts.{Text}
 use Rattle.pnp_labels.specs.declared.states.Problem.{Problem}
 use Rattle.pnp_labels.specs.declared.states.DevState.TheVariants.{Started}
@@ -20,14 +20,14 @@ use Rattle.pnp_labels.specs.declared.label.Label.{Label}
 use Rattle.pnp_labels.specs.declared.label.OpKind.{OpKind}
 use Rattle.pnp_laws.specs.Words.{IsBeside}
 use Rattle.pnp_laws.specs.Holdings.{has_plan}
-use Rattle.pnp_laws.specs.Listed.{AreFreeBy, CanMoveBy, ListedConflictLaw}
+use Rattle.pnp_laws.specs.Listed.{AreFreeBy, CanMoveBy, EachConflictIsListedLaw}
 use Rattle.pnp_laws.specs.Rebalanced.{Undone, AskedSince, Asks, IsAskedAt, StaysOut, Underway}
 use Rattle.pnp_laws.proofs.Lookups.{own_serial}
 use Rattle.pnp_laws.proofs.Standing.{Tree}
 use Rattle.pnp_laws.proofs.Reached.{reached_is_good, reached_tree}
 use Rattle.pnp_laws.proofs.RebalanceMoves.{NoConflict}
 use Rattle.pnp_laws.proofs.RebalanceRuns.{Stepped, IsOver, rebalance_stepped, refusing, lasts}
-use Rattle.pnp_laws.specs.Begun.{HasBegun, Belongs, EachConflictLaw}
+use Rattle.pnp_laws.specs.Begun.{HasBegun, Belongs, EachConflictIsRealLaw}
 use Rattle.pnp_laws.proofs.BeginSteps.{step_did}
 use Rattle.pnp_laws.proofs.RunsBegun.{operations_begin}
 use Rattle.pnp_laws.proofs.Reaching.{reached_after}
@@ -205,7 +205,7 @@ at_conflict settings rack earlier entries before begun last after begin_path pat
     }
 
 -- problem 12 comes only where no assignment exists for the device and all that can move
-pub conflicts_are_real : ConflictLaw
+pub conflicts_are_real : ConflictsAreRealLaw
 conflicts_are_real settings rack earlier entries before begun last after begin_path path reaches goes run within ends k n at named ms free =
     let tree = reached_tree settings rack before (earlier, reaches) in
     let c = at_conflict settings rack earlier entries before begun last after begin_path path reaches goes run within ends in
@@ -218,7 +218,7 @@ conflicts_are_real settings rack earlier entries before begun last after begin_p
 
 -- Each problem 12 -------------------------------------------------------------------------------
 
-pub each_conflict_is_real : EachConflictLaw
+pub each_conflict_is_real : EachConflictIsRealLaw
 each_conflict_is_real settings rack entries s entry t path reaches goes e =
     let began : HasBegun settings rack entries s OpKind.Rebalance path = subst (λ (x : Label). Belongs settings rack entries s x) e (operations_begin settings rack entries s entry t reaches goes) in
     let c = at_conflict settings rack began.earlier began.later began.before began.begun s t path path began.reaches began.begins began.run began.within (subst (λ (x : Label). Goes settings s (Did x) t) e (step_did settings s entry t goes (λ beside. subst (λ (x : Label). IsBeside x) e beside))) in
@@ -267,7 +267,7 @@ listed_free nodes agreed refused asks =
           | inr (inr out) ↦ absurd (is.2 out)
         ]
 
-pub each_conflict_is_listed : ListedConflictLaw
+pub each_conflict_is_listed : EachConflictIsListedLaw
 each_conflict_is_listed settings rack entries s entry t path reaches goes e =
     let began : HasBegun settings rack entries s OpKind.Rebalance path = subst (λ (x : Label). Belongs settings rack entries s x) e (operations_begin settings rack entries s entry t reaches goes) in
     let c = at_conflict settings rack began.earlier began.later began.before began.begun s t path path began.reaches began.begins began.run began.within (subst (λ (x : Label). Goes settings s (Did x) t) e (step_did settings s entry t goes (λ beside. subst (λ (x : Label). IsBeside x) e beside))) in

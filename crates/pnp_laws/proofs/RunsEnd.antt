@@ -22,7 +22,7 @@ use Rattle.pnp_laws.proofs.TurnsKept.{running_stage, running_told}
 use Rattle.pnp_laws.proofs.Weights.{IsNoAdd, Lighter, lighter_follows}
 use Rattle.pnp_laws.proofs.Standing.{SurpriseThere, SurpriseTold, kept_by, told_by}
 use Rattle.pnp_laws.proofs.Measures.{Falls, coarse, rank_of, left_of, answers_of}
-use Rattle.pnp_laws.specs.Ends.{AllSteps, Settles, SettlesLaw}
+use Rattle.pnp_laws.specs.Ends.{AllSteps, Settles, ComesToRestLaw}
 use Rattle.pnp_laws.proofs.RunsStep.{rests_or, nothing_next, doing_one}
 use Rattle.pnp_model.proofs.Determined.{one_state}
 use Rattle.pnp_laws.proofs.MeasureOps.{Lowers, TargetOver, falls_turned}
@@ -225,6 +225,6 @@ all_settle settings =
     (λ w x y z lower s kept born e a b c. settled_by settings s kept born
     (λ t kept_t born_t l. lower (join_price t) (first_of t) (left_of t.operation) (last_of t) (at_numbers t s w x y z e a b c l) t kept_t born_t refl refl refl refl))
 
-pub every_run_settles : SettlesLaw
+pub every_run_settles : ComesToRestLaw
 every_run_settles settings rack entries s run =
     all_settle settings (join_price s) (first_of s) (left_of s.operation) (last_of s) s (reaches_kept settings rack entries s run) (reaches_born settings rack entries s run) refl refl refl refl

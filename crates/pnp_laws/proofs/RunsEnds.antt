@@ -9,7 +9,7 @@ use Rattle.pnp_labels.specs.declared.label.Label.{Label}
 use Rattle.pnp_labels.specs.declared.label.OpKind.{OpKind}
 use Rattle.pnp_labels.specs.declared.label.OpEnd.{OpEnd}
 use Rattle.pnp_laws.specs.Words.{IsBeside}
-use Rattle.pnp_laws.specs.Begun.{HasBegun, Belongs, Restoring, EachEndLaw}
+use Rattle.pnp_laws.specs.Begun.{HasBegun, Belongs, Restoring, EachEndRestoresLaw}
 use Rattle.pnp_laws.proofs.BeginSteps.{step_did}
 use Rattle.pnp_laws.proofs.RunsBegun.{operations_begin}
 use Rattle.pnp_laws.proofs.RunsFutile.{futile_restores}
@@ -57,5 +57,5 @@ by_label settings rack entries s entry t _ e reaches goes = tt
 
 -- each end with a veto restores all, and so does each end of a change that was not made; each end of a rebalance that found nothing
 -- all but the problem of its device
-pub each_end_restores : EachEndLaw
+pub each_end_restores : EachEndRestoresLaw
 each_end_restores settings rack entries s entry t reaches goes = by_label settings rack entries s entry t (printed entry) refl reaches goes

@@ -44,7 +44,7 @@ use Rattle.pnp_laws.proofs.StrayMoves.{From, Seen, from, spared_by}
 use Rattle.pnp_laws.proofs.EffectsOfOperations.{begun_work, turn_work}
 use Rattle.pnp_laws.proofs.Turns.{running_good}
 use Rattle.pnp_laws.proofs.Truths.{or_left}
-use Rattle.pnp_laws.specs.Facts.{AdriftSeen, FactsLaw, IdleChildless, IsAdrift, IsDriven, IsRemovalOrFinish, NobodyAdrift, SeenIn, SeenTo, StopsNobody, to_finish, to_restart}
+use Rattle.pnp_laws.specs.Facts.{AdriftSeen, FactsAreKeptLaw, IdleChildless, IsAdrift, IsDriven, IsRemovalOrFinish, NobodyAdrift, SeenIn, SeenTo, StopsNobody, to_finish, to_restart}
 use Rattle.pnp_laws.proofs.Related.{IsUpAt, JoinsUp, related_up}
 use Rattle.pnp_laws.proofs.RunsStrays.{each_stray_is_seen, nobody_is_forgotten}
 use Rattle.pnp_laws.proofs.FitsBy.{asked_is}
@@ -328,7 +328,7 @@ quiet_goes settings rack s (Declines label) t reached old goes = λ h. absurd (s
 
 -- The law -----------------------------------------------------------------------------------------
 
-pub facts_are_kept : FactsLaw
+pub facts_are_kept : FactsAreKeptLaw
 facts_are_kept settings rack entries s run =
     let holds = reaches_kept settings rack entries s run in
     let related = related_up settings rack entries s run in

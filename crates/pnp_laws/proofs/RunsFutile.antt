@@ -7,7 +7,7 @@ use Rattle.pnp_model.specs.Rebalances.{begun_with, end_of, has_refused, has_refu
 use Rattle.pnp_model.specs.Tests.{has}
 use Rattle.pnp_model.specs.Runs.{Entry, Goes, Run}
 use Rattle.pnp_model.specs.Runs.Entry.{Did}
-use Rattle.pnp_model.specs.Laws.{Reaches, IsWithin, AllWithin, RestoresBut, FutileLaw}
+use Rattle.pnp_model.specs.Laws.{Reaches, IsWithin, AllWithin, RestoresBut, FutileRestoresLaw}
 use Rattle.pnp_labels.specs.Texts.{Text}
 use Rattle.pnp_labels.specs.declared.label.Label.{Label}
 use Rattle.pnp_labels.specs.declared.label.OpKind.{OpKind}
@@ -112,7 +112,7 @@ restored path before last after u label h plain none =
     ]
 
 -- a rebalance that found nothing restores everything but the problem of its device
-pub futile_restores : FutileLaw
+pub futile_restores : FutileRestoresLaw
 futile_restores settings rack earlier entries before begun last after path end_path reaches goes run within ends =
     let since = since_rebalance settings rack earlier entries before begun last path reaches goes run within in
     let plain = plain_since settings rack path before begun entries last since in

@@ -19,7 +19,7 @@ use Rattle.pnp_model.specs.Runs.Entry.{Happens, Did, Declines}
 use Rattle.pnp_model.specs.Tests.{has}
 use Rattle.pnp_laws.specs.Effects.{NodeEffect, RangeEffect}
 use Rattle.pnp_laws.specs.Ends.{events}
-use Rattle.pnp_laws.specs.Held.{AllHoldParts, AreWithin, FewHeldLaw, HoldsPart, PartsLaw}
+use Rattle.pnp_laws.specs.Held.{AllHoldParts, AreWithin, FewHeldLaw, HoldsPart, EachHoldsAPartLaw}
 use Rattle.pnp_laws.specs.Kept.{Ascending}
 use Rattle.pnp_laws.specs.Keys.{BirthsApart}
 use Rattle.pnp_laws.specs.Plans.{IsPlanned, StagePlan}
@@ -74,7 +74,7 @@ parts_goes : (settings : Settings) (rack : List Driver) (s : State) (entry : Ent
 parts_goes settings rack s entry t reached old goes =
     parts_after s (printed entry) t (reached_is_good settings rack s reached).serials (reached_is_planned settings rack s reached) old (effect_goes settings s entry t goes).nodes
 
-pub each_holds_a_part : PartsLaw
+pub each_holds_a_part : EachHoldsAPartLaw
 each_holds_a_part settings rack entries s run =
     kept (λ (x : State). AllHoldParts x.core.nodes) settings rack (parts_goes settings rack)
     (λ k n at. subst HoldsPart (root_is k n at).0 (inl refl)) s (entries, run)

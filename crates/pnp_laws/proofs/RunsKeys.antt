@@ -10,7 +10,7 @@ use Rattle.pnp_model.specs.Sharing.{Foreign, Clear}
 use Rattle.pnp_model.specs.Tests.{has}
 use Rattle.pnp_model.specs.Trees.{dependents}
 use Rattle.pnp_laws.specs.Kept.{Ascending}
-use Rattle.pnp_laws.specs.Keys.{NoCycleLaw, MapLaw}
+use Rattle.pnp_laws.specs.Keys.{NothingDependsOnItselfLaw, NothingPrintedClashesLaw}
 use Rattle.pnp_laws.proofs.Closures.{head_at, tail_at}
 use Rattle.pnp_laws.proofs.Truths.{untrue}
 use Rattle.pnp_laws.proofs.Lookups.{none_below}
@@ -22,7 +22,7 @@ use Rattle.pnp_laws.proofs.RunsStand.{reaches_kept}
 -- No cycle ------------------------------------------------------------------------------------
 
 -- what depends on a device has a lower rank
-pub no_cycle : NoCycleLaw
+pub no_cycle : NothingDependsOnItselfLaw
 no_cycle settings rack entries s run k =
     let kept = reaches_kept settings rack entries s run in
     let tree = kept.stands.tree in
@@ -72,7 +72,7 @@ held_apart reserved lo (n ∷ ns) order clear =
     let of = holder_of (suc n.serial) ns b order.1 cb in
     clear.two n.serial of.0 n of.1 (other_serial n ns of.0 of.1 order.1 of.2) (head_at n ns) (tail_at lo n ns of.0 of.1 order of.2) a b ca of.3 clash)
 
-pub nothing_printed_clashes : MapLaw
+pub nothing_printed_clashes : NothingPrintedClashesLaw
 nothing_printed_clashes settings rack entries s run =
     let clear = nothing_clashes settings rack entries s run in
     let order = (reaches_kept settings rack entries s run).good.serials in

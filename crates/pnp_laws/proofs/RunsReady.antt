@@ -13,7 +13,7 @@ use Rattle.pnp_model.specs.Runs.{Entry, Goes, opening, printed}
 use Rattle.pnp_model.specs.Runs.Entry.{Happens, Did, Declines}
 use Rattle.pnp_laws.specs.Effects.{AnswerEffect, Effect, Running, Turn}
 use Rattle.pnp_laws.specs.Reached.{IsReached}
-use Rattle.pnp_laws.specs.Waiting.{IsNeither, NeitherRuns, ReadyLaw, is_to_finish}
+use Rattle.pnp_laws.specs.Waiting.{IsNeither, NeitherRuns, ReadyOnesAreDueLaw, is_to_finish}
 use Rattle.pnp_laws.specs.Words.{IsWord}
 use Rattle.pnp_laws.proofs.Declined.{idle_before}
 use Rattle.pnp_laws.proofs.EffectsOf.{effect_goes}
@@ -148,7 +148,7 @@ opening_seen rack k n at ready = absurd (let root = ap (λ (x : Node). x.state) 
 seen_run : (settings : Settings) (rack : List Driver) (s : State) → IsReached settings rack s → Seen s
 seen_run settings rack s reached = kept Seen settings rack (λ old entry new from h goes. seen_goes settings old entry new (reaches_kept settings rack from.0 old from.1) goes h) (opening_seen rack) s reached
 
-pub ready_ones_are_due : ReadyLaw
+pub ready_ones_are_due : ReadyOnesAreDueLaw
 ready_ones_are_due settings rack entries s run neither k n at ready =
     let was = reaches_kept settings rack entries s run in
     elim (seen_run settings rack s (entries, run) k n at (ready_readied s.next_serial s.core s.handles k n was.good.stacks was.stands.tree at ready)) [

@@ -5,7 +5,7 @@ use Rattle.pnp_model.specs.Runs.{Entry, Goes, Run, printed, opening}
 use Rattle.pnp_model.specs.Runs.Entry.{Happens, Did, Declines}
 use Rattle.pnp_laws.specs.Words.{joined}
 use Rattle.pnp_laws.specs.Ends.{events, joins}
-use Rattle.pnp_laws.specs.Serials.{SerialsLaw, FewSerialsLaw, FewBirthsLaw}
+use Rattle.pnp_laws.specs.Serials.{SerialsAreJoinsLaw, FewSerialsLaw, FewBirthsLaw}
 use Rattle.pnp_laws.specs.Effects.{WorldEffect}
 use Rattle.pnp_laws.proofs.EffectsOf.{effect_goes}
 use Rattle.pnp_laws.proofs.JoinLimits.{joins_are_limited}
@@ -36,7 +36,7 @@ counted_run settings old [] new run = subst (λ (s : State). AllCounted old [] s
 counted_run settings old (entry ∷ rest) new (mid, goes, run) =
     counted_first old mid new entry rest (counted settings old entry mid goes) (counted_run settings mid rest new run)
 
-pub serials_are_joins : SerialsLaw
+pub serials_are_joins : SerialsAreJoinsLaw
 serials_are_joins settings rack entries s run = let h = (counted_run settings (opening rack) entries s run).0 in omega arith
 
 pub few_serials : FewSerialsLaw

@@ -2,7 +2,7 @@
 use Rattle.std.proofs.Common.{ℕ, ◌≡◌, List, [], ◌∷◌, Some, refl, sym, ap, subst}
 use Rattle.resource_reqs.specs.Resources.{Res, NoClash}
 use Rattle.pnp_model.specs.Cores.{node_at}
-use Rattle.pnp_model.specs.Laws.{SharingLaw}
+use Rattle.pnp_model.specs.Laws.{NothingClashesLaw}
 use Rattle.pnp_model.specs.Records.{Node, Driver, State, Settings}
 use Rattle.pnp_model.specs.Runs.{Entry, Goes, opening, printed, root_node}
 use Rattle.pnp_model.specs.Sharing.{Clear}
@@ -36,5 +36,5 @@ opening_is_clear rack =
     }
 
 -- in each state of a run nothing clashes
-pub nothing_clashes : SharingLaw
+pub nothing_clashes : NothingClashesLaw
 nothing_clashes settings rack entries s run = kept IsClear settings rack (clear_goes settings rack) (opening_is_clear rack) s (entries, run)

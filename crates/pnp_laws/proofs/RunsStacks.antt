@@ -20,10 +20,10 @@ use Rattle.pnp_model.specs.States.{activity_at, is_activity, with_phase}
 use Rattle.pnp_model.specs.Tasks.{has_path, joins}
 use Rattle.pnp_model.specs.Walks.{place_of}
 use Rattle.pnp_laws.specs.Effects.{ActivityEffect, Acting, Chosen, DriverEffect, Enters, IsUnasked, NodeEffect, PhaseStep}
-use Rattle.pnp_laws.specs.Keys.{FoldedApart, KeysLaw}
+use Rattle.pnp_laws.specs.Keys.{FoldedApart, NodesAreKeyedLaw}
 use Rattle.pnp_laws.specs.Kept.{InOrder, IsGood}
 use Rattle.pnp_laws.specs.Reached.{IsReached}
-use Rattle.pnp_laws.specs.Stacks.{AllNamed, HasName, IsNamed, NamesDriver, NamesLaw, StacksLaw}
+use Rattle.pnp_laws.specs.Stacks.{AllNamed, HasName, IsNamed, NamesDriver, NamesAreKnownLaw, StacksFitLaw}
 use Rattle.pnp_laws.proofs.DriverNames.{MoreNames, chosen_named, more_names, named_append, named_at, named_more, place_below}
 use Rattle.pnp_laws.proofs.EffectsOf.{effect_goes}
 use Rattle.pnp_laws.proofs.EffectViews.{Origin, StartOrigin, acting_at, origin, start_origin}
@@ -270,7 +270,7 @@ stacked_at settings rack entries s run = kept Stacked settings rack (stacked_goe
 
 -- The laws -------------------------------------------------------------------------------------------
 
-pub stacks_fit : StacksLaw
+pub stacks_fit : StacksFitLaw
 stacks_fit settings rack entries s run =
     let h = stacked_at settings rack entries s run in
     let good = (reaches_kept settings rack entries s run).good in
@@ -280,7 +280,7 @@ stacks_fit settings rack entries s run =
       empty = λ k n at up. let own = good.stacks k n at in (own.some up, own.none);
     }
 
-pub keyed : KeysLaw
+pub keyed : NodesAreKeyedLaw
 keyed settings rack entries s run =
     let all = reaches_kept settings rack entries s run in
     record {
@@ -290,7 +290,7 @@ keyed settings rack entries s run =
       parents = λ k n at up. let over = all.stands.tree.rooted k n at up in (over.1.0, over.1.1, over.0);
     }
 
-pub names_are_known : NamesLaw
+pub names_are_known : NamesAreKnownLaw
 names_are_known settings rack entries old entry new run goes =
     let effect = effect_goes settings old entry new goes in
     names_printed old entry new (reaches_kept settings rack entries old run).good (stacked_at settings rack entries old run) effect.drivers effect.drivers

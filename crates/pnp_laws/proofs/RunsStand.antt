@@ -4,7 +4,7 @@ use Rattle.pnp_model.specs.Records.{Node, Driver, State, Step, Settings}
 use Rattle.pnp_model.specs.Cores.{node_at}
 use Rattle.pnp_model.specs.Trees.{hangs_on}
 use Rattle.pnp_model.specs.Diagram.{Walked}
-use Rattle.pnp_model.specs.Laws.{Reaches, DependentsFirst, DiagramLaw, DependentsLaw}
+use Rattle.pnp_model.specs.Laws.{Reaches, DependentsFirst, FollowsDiagramLaw, DependentsFirstLaw}
 use Rattle.pnp_model.specs.Runs.{Entry, Goes, Run, printed, opening, root_node}
 use Rattle.pnp_model.specs.Runs.Entry.{Happens, Did, Declines}
 use Rattle.pnp_labels.specs.declared.event.Event.{Event}
@@ -103,10 +103,10 @@ first_goes settings old (Happens event label) new kept goes =
 first_goes settings old (Did label) new kept goes = (sound_step settings old (record { label = label; state = new }) kept.good kept.waits.told kept.stands goes).first
 first_goes settings old (Declines label) new kept goes = (sound_declined old label new goes kept.stands).first
 
-pub every_run_follows : DiagramLaw
+pub every_run_follows : FollowsDiagramLaw
 every_run_follows settings rack entries old entry new run goes =
     let kept = reaches_kept settings rack entries old run in
     (follows_effect old (printed entry) new kept.good (effect_goes settings old entry new goes).nodes, walked_goes settings old entry new kept goes)
 
-pub dependents_go_first : DependentsLaw
+pub dependents_go_first : DependentsFirstLaw
 dependents_go_first settings rack entries old entry new run goes = first_goes settings old entry new (reaches_kept settings rack entries old run) goes

@@ -10,7 +10,7 @@ use Rattle.pnp_model.specs.Frames.{asked, first_node}
 use Rattle.pnp_model.proofs.Determined.{one_label, one_state}
 use Rattle.pnp_labels.specs.declared.label.Label.{Label}
 use Rattle.pnp_labels.specs.declared.label.OpKind.{OpKind}
-use Rattle.pnp_laws.specs.Quiet.{Delays, NoTask, RestsWith, QuietLaw, OneStep, StepLaw}
+use Rattle.pnp_laws.specs.Quiet.{Delays, NoTask, RestsWith, QuietWhereItRestsLaw, OneStep, ExactlyOneStepLaw}
 use Rattle.pnp_laws.proofs.Lookups.{ready_found}
 use Rattle.pnp_laws.proofs.AnswerThere.{answer_some}
 use Rattle.pnp_laws.proofs.Standing.{Goes, Kept, StageKept, RebalanceThere, RemovalThere, SurpriseThere, FinishThere, JobKept}
@@ -208,7 +208,7 @@ pub nothing_next : (settings : Settings) (s : State) (o : Option Job) → RestsW
 nothing_next settings s (Some o) h = ap (ma.operation_next s o) h
 nothing_next settings s None h = ap (ma.idle_next settings s) h.0 ∙ no_task settings s (slice_get s.tasks 0) h.1
 
-pub quiet_where_it_rests : QuietLaw
+pub quiet_where_it_rests : QuietWhereItRestsLaw
 quiet_where_it_rests settings rack entries s run = (
   (λ quiet. elim (rests_or settings s s.operation refl (reaches_kept settings rack entries s run)) [
     | inl h ↦ h
@@ -228,7 +228,7 @@ doing_one settings s (Searches problem by_answer) e =
     let step = by_answer found.0 in
     one_of settings s step.label step.state (subst (λ (o : Option (Doing Step)). ma.IsStep settings o step) (sym e) (found.0, found.1, refl))
 
-pub exactly_one_step : StepLaw
+pub exactly_one_step : ExactlyOneStepLaw
 exactly_one_step settings rack entries s run awake =
     elim (rests_or settings s s.operation refl (reaches_kept settings rack entries s run)) [
       | inl h ↦ absurd (awake h)

@@ -22,7 +22,7 @@ use Rattle.pnp_laws.specs.Due.{is_due, leads}
 use Rattle.pnp_laws.specs.Effects.{AnswerEffect, Closes, ClosesIn, ClosesRebalance, CommandEffect, NodeEffect, OpEffect, OperationEffect, Running, TaskEffect, TasksEffect, to_leave}
 use Rattle.pnp_laws.specs.Kept.{Ascending, OperationFits, RebalanceKeeps, SurpriseKeeps}
 use Rattle.pnp_laws.specs.Reached.{IsReached}
-use Rattle.pnp_laws.specs.Strays.{IsStray, StraysLaw}
+use Rattle.pnp_laws.specs.Strays.{IsStray, NobodyIsForgottenLaw}
 use Rattle.pnp_laws.specs.Words.{spared, spared_in}
 use Rattle.pnp_laws.proofs.Aboves.{due_below, due_more, is_above_in}
 use Rattle.pnp_laws.proofs.Closures.{closed_keeps, those_serial}
@@ -298,7 +298,7 @@ opening_seen rack =
 pub each_stray_is_seen : (settings : Settings) (rack : List Driver) (entries : List Entry) (s : State) → Reaches settings rack entries s → Seen s
 each_stray_is_seen settings rack entries s run = kept Seen settings rack (seen_goes settings rack) (opening_seen rack) s (entries, run)
 
-pub nobody_is_forgotten : StraysLaw
+pub nobody_is_forgotten : NobodyIsForgottenLaw
 nobody_is_forgotten settings rack entries s run none =
     let seen = each_stray_is_seen settings rack entries s run in
     let due = subst (λ (x : Option Job). DueBut (waiting x) s.tasks s.core.nodes) none (reaches_kept settings rack entries s run).stands.due in

@@ -17,7 +17,7 @@ use Rattle.pnp_model.specs.Runs.{Entry, printed}
 use Rattle.pnp_model.specs.Walks.{has_ended, is_bad, may_fail, state_after}
 use Rattle.pnp_laws.specs.Effects.{Acting, DriverEffect, IsUnasked, PhaseOwn, Request, phase_minor}
 use Rattle.pnp_laws.specs.Kept.{IsGood}
-use Rattle.pnp_laws.specs.Told.{ChangesAt, IsWalkOf, StatesLaw}
+use Rattle.pnp_laws.specs.Told.{ChangesAt, IsWalkOf, StatesAreToldLaw}
 use Rattle.pnp_laws.proofs.Asked.{Rows, request_rows}
 use Rattle.pnp_laws.proofs.EffectsOf.{effect_goes}
 use Rattle.pnp_laws.proofs.EffectViews.{Turns, acting_at, state_from}
@@ -103,7 +103,7 @@ module _ (s : State) (entry : Entry) (t : State) (all : Kept s) (path : Text) (s
   told owns (DriverEffect.named kind name label gives unasked rack) = absurd (no_state (printed entry) path state unasked is)
   told owns (DriverEffect.taught name rule unasked rack) = absurd (no_state (printed entry) path state unasked is)
 
-pub states_are_told : StatesLaw
+pub states_are_told : StatesAreToldLaw
 states_are_told settings rack entries old entry new run goes =
     let all = reaches_kept settings rack entries old run in
     let effect = effect_goes settings old entry new goes in

@@ -9,7 +9,7 @@ use Rattle.pnp_labels.specs.Texts.{Text}
 use Rattle.pnp_labels.specs.declared.label.Label.{Label}
 use Rattle.pnp_labels.specs.declared.label.OpKind.{OpKind}
 use Rattle.pnp_labels.specs.declared.label.OpEnd.{OpEnd}
-use Rattle.pnp_laws.specs.Begun.{UnchangedLaw}
+use Rattle.pnp_laws.specs.Begun.{UnchangedRestoresLaw}
 use Rattle.pnp_laws.specs.Effects.{required}
 use Rattle.pnp_laws.specs.Kept.{kind_by}
 use Rattle.pnp_laws.specs.Holdings.{has_plan}
@@ -46,7 +46,7 @@ restored path before last after u label over kind other = by_wanted u.frame.want
         ]
 
 -- a change that was not made restores everything
-pub unchanged_restores : UnchangedLaw
+pub unchanged_restores : UnchangedRestoresLaw
 unchanged_restores settings rack earlier entries before begun last after path end_path end_result reaches goes run within ends other =
     let since = since_begin OpKind.Change (λ node. Some (required before node (device_born node.born before.world))) settings rack earlier entries before begun last path (λ node. refl) (λ node. refl) refl reaches goes run within in
     let u = since.lasts.under in

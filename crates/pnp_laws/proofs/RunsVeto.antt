@@ -6,7 +6,7 @@ use Rattle.pnp_model.specs.Removals.{begun_removal, end_of}
 use Rattle.pnp_model.specs.Tasks.{begin}
 use Rattle.pnp_model.specs.Runs.{Entry, Goes, Run, printed}
 use Rattle.pnp_model.specs.Runs.Entry.{Happens, Did, Declines}
-use Rattle.pnp_model.specs.Laws.{IsWithin, AllWithin, Restores, VetoLaw}
+use Rattle.pnp_model.specs.Laws.{IsWithin, AllWithin, Restores, VetoRestoresLaw}
 use Rattle.pnp_labels.specs.Texts.{Text}
 use Rattle.pnp_labels.specs.declared.label.Label.{Label}
 use Rattle.pnp_labels.specs.declared.label.OpKind.{OpKind}
@@ -123,7 +123,7 @@ by_begin settings rack before begun last after entries OpKind.Eject end_kind pat
 by_begin settings rack before begun last after entries kind end_kind path end_path q b reached run within ends =
     absurd (unvetoed settings rack begun last after entries end_kind end_path q reached (other_runs before kind b.node begun (ef.begun before kind b.node) (ap (λ (x : OpKind). is_removal (course_of x)) (begun_work before kind b.node).0) b.is) run within ends)
 
-pub a_veto_restores : VetoLaw
+pub a_veto_restores : VetoRestoresLaw
 a_veto_restores settings rack earlier entries before begun last after kind end_kind path end_path refuser reaches goes run within ends =
     let at_before : IsReached settings rack before = (earlier, reaches) in
     by_begin settings rack before begun last after entries kind end_kind path end_path refuser

@@ -3,7 +3,7 @@ use Rattle.std.proofs.Common.{◌≡◌, inl, List, [], ◌∷◌, refl, subst}
 use Rattle.resource_reqs.specs.Resources.{Whole}
 use Rattle.pnp_model.specs.Records.{Node, Driver, State, Settings}
 use Rattle.pnp_model.specs.Runs.{Entry, Goes, opening, printed, root_node}
-use Rattle.pnp_model.specs.Laws.{WholeLaw, HoldsWhole}
+use Rattle.pnp_model.specs.Laws.{AllHoldWholeLaw, HoldsWhole}
 use Rattle.pnp_laws.specs.Reached.{IsReached}
 use Rattle.pnp_laws.specs.Holdings.{IsWhole}
 use Rattle.pnp_laws.proofs.Runs.{root_is}
@@ -33,5 +33,5 @@ reached_is_whole settings rack s reached =
     kept (λ (x : State). IsWhole x) settings rack (whole_goes settings rack) (opening_is_whole rack) s reached
 
 -- in each state of each run devices that are up hold one whole alternative, and devices without drivers nothing
-pub all_hold_whole : WholeLaw
+pub all_hold_whole : AllHoldWholeLaw
 all_hold_whole settings rack entries s reaches = (reached_is_whole settings rack s (entries, reaches)).holds

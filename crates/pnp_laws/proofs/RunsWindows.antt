@@ -13,7 +13,7 @@ use Rattle.pnp_model.specs.Tests.{has}
 use Rattle.pnp_model.specs.Trees.{above, above_in}
 use Rattle.pnp_model.specs.Windows.{birth_of, births, clip, is_window_on, narrowed, room}
 use Rattle.pnp_model.proofs.Clips.{clip_is_whole, clip_twice}
-use Rattle.pnp_laws.specs.Windows.{ClippedLaw, WindowsLaw}
+use Rattle.pnp_laws.specs.Windows.{NeedsAreClippedLaw, HeldInsideWindowsLaw}
 use Rattle.pnp_laws.proofs.Aboves.{above_any, above_step}
 use Rattle.pnp_laws.proofs.Decides.{contains_here, contains_later}
 use Rattle.pnp_laws.proofs.Due.{RootIsOwn, above_zero}
@@ -28,7 +28,7 @@ use Rattle.pnp_laws.proofs.Truths.{both_true, by_test}
 -- What is needed ----------------------------------------------------------------------------------
 
 -- it is what was said, clipped by the same rooms
-pub needs_are_clipped : ClippedLaw
+pub needs_are_clipped : NeedsAreClippedLaw
 needs_are_clipped settings rack entries s run k n at up =
     let (said, is, clipped) = nodes_are_plugged settings rack entries s run k n at in
     ap (clip s.windows s.core.nodes n.parent) clipped ∙ clip_twice (room s.windows s.core.nodes n.parent) said ∙ sym clipped
@@ -86,7 +86,7 @@ above_parent c rooted root (suc k) j m at up h =
       ]
     ]
 
-pub held_inside_windows : WindowsLaw
+pub held_inside_windows : HeldInsideWindowsLaw
 held_inside_windows settings rack entries s run k j n over res w at held high there known own kind =
     let tree = reached_tree settings rack s (entries, run) in
     let up : k ≢ 0 = λ z. let none = subst (λ (i : ℕ). has (above s.core.nodes i) j ≡ true) z high in cc in

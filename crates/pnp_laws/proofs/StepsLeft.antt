@@ -5,7 +5,7 @@ use Rattle.pnp_model.specs.Records.{State, Step, Settings, Doing, Driver}
 use Rattle.pnp_model.specs.Records.Doing.{Does, Searches}
 use Rattle.pnp_labels.specs.declared.label.Label.{Label}
 use Rattle.pnp_model.proofs.Determined.{one_state}
-use Rattle.pnp_laws.specs.StepsLeft.{CountsSteps, StepsLeftLaw}
+use Rattle.pnp_laws.specs.StepsLeft.{CountsSteps, StepsAreCountedLaw}
 use Rattle.pnp_laws.specs.Reached.{IsReached}
 use Rattle.pnp_laws.proofs.AnswerThere.{answer_some}
 use Rattle.pnp_laws.proofs.Falling.{dec_lowest, falls_end}
@@ -73,7 +73,7 @@ one_left_less settings rack s t label (entries, run) steps = one_less settings s
 pub left_falls : (settings : Settings) (rack : List Driver) (s t : State) (label : Label) → IsReached settings rack s → ma.Steps settings s label t → steps_left settings t < steps_left settings s
 left_falls settings rack s t label reached steps = let e = one_left_less settings rack s t label reached steps in omega arith
 
-pub steps_are_counted : StepsLeftLaw
+pub steps_are_counted : StepsAreCountedLaw
 steps_are_counted settings = (steps_left settings, counts)
   where
     counts : CountsSteps settings (steps_left settings)

@@ -9,7 +9,7 @@ use Rattle.pnp_model.specs.Endings.{Placed, placed, print_order, root_of}
 use Rattle.pnp_model.specs.Records.{Core, Node}
 use Rattle.pnp_model.specs.Trees.{children, is_child}
 use Rattle.pnp_laws.specs.Kept.{Ascending}
-use Rattle.pnp_laws.specs.Printed.{TreeLaw, lines_of}
+use Rattle.pnp_laws.specs.Printed.{EachNodeIsPrintedOnceLaw, lines_of}
 use Rattle.pnp_laws.proofs.Closures.{head_at, tail_at}
 use Rattle.pnp_laws.proofs.Lookups.{found_self, own_serial}
 use Rattle.pnp_laws.proofs.Ranks.{Rooted}
@@ -261,7 +261,7 @@ root_found : (nodes : List Node) (o : Option Node) → node_at 0 nodes ≡ o →
 root_found nodes None e = tt
 root_found nodes (Some r) e = (found_self 0 nodes r e, tt)
 
-pub each_node_is_printed_once : TreeLaw
+pub each_node_is_printed_once : EachNodeIsPrintedOnceLaw
 each_node_is_printed_once settings rack entries s run =
     let all = reaches_kept settings rack entries s run in
     let order = all.good.serials in

@@ -29,8 +29,8 @@ Belongs settings rack entries s (Label.End kind path result) = HasBegun settings
 Belongs settings rack entries s (Label.Trouble path Problem.NormalConflict) = HasBegun settings rack entries s OpKind.Rebalance path
 Belongs settings rack entries s _ = Unit {0}
 
-abbrev pub BegunLaw : Type 0
-BegunLaw =
+abbrev pub OperationsBeginLaw : Type 0
+OperationsBeginLaw =
     (settings : Settings) (rack : List Driver) (entries : List Entry) (s : State) (entry : Entry) (t : State)
     → Reaches settings rack entries s → Goes settings s entry t → Belongs settings rack entries s (printed entry)
 
@@ -46,15 +46,15 @@ pub record Conflicts (settings : Settings) (rack : List Driver) (entries : List 
   pub none : NothingFits s.core (device ∷ movers)
 
 -- each problem 12 that is printed is real
-abbrev pub EachConflictLaw : Type 0
-EachConflictLaw =
+abbrev pub EachConflictIsRealLaw : Type 0
+EachConflictIsRealLaw =
     (settings : Settings) (rack : List Driver) (entries : List Entry) (s : State) (entry : Entry) (t : State) (path : Text)
     → Reaches settings rack entries s → Goes settings s entry t → printed entry ≡ Label.Trouble path Problem.NormalConflict
     → Conflicts settings rack entries s path
 
 -- a change that found nothing, or whose device would not stop, restores everything
-abbrev pub UnchangedLaw : Type 0
-UnchangedLaw =
+abbrev pub UnchangedRestoresLaw : Type 0
+UnchangedRestoresLaw =
     (settings : Settings) (rack : List Driver) (earlier entries : List Entry) (before begun last after : State) (path end_path : Text) (result : OpEnd)
     → Reaches settings rack earlier before → Goes settings before (Did (Label.Begin OpKind.Change path)) begun
     → Run settings begun entries last → AllWithin entries
@@ -73,7 +73,7 @@ Restoring settings rack entries s t (Label.End OpKind.Change path OpEnd.Refused)
 Restoring settings rack entries s t _ = Unit {0}
 
 -- each such end that is printed restores
-abbrev pub EachEndLaw : Type 0
-EachEndLaw =
+abbrev pub EachEndRestoresLaw : Type 0
+EachEndRestoresLaw =
     (settings : Settings) (rack : List Driver) (entries : List Entry) (s : State) (entry : Entry) (t : State)
     → Reaches settings rack entries s → Goes settings s entry t → Restoring settings rack entries s t (printed entry)

@@ -460,5 +460,5 @@ pub record Effect (s : State) (entry : Entry) (t : State) : Type 0 where
   pub serial : t.next_serial ≡ s.next_serial + joined (printed entry)
 
 -- each step and each event has one
-abbrev pub EffectLaw : Type 0
-EffectLaw = (settings : Settings) (s : State) (entry : Entry) (t : State) → Goes settings s entry t → Effect s entry t
+abbrev pub EachStepHasAnEffectLaw : Type 0
+EachStepHasAnEffectLaw = (settings : Settings) (s : State) (entry : Entry) (t : State) → Goes settings s entry t → Effect s entry t

@@ -25,8 +25,8 @@ pub record Settles (settings : Settings) (s : State) : Type 0 where
   pub rests : Rests last
 
 -- so it does from each state of a run
-abbrev pub SettlesLaw : Type 0
-SettlesLaw =
+abbrev pub ComesToRestLaw : Type 0
+ComesToRestLaw =
     (settings : Settings) (rack : List Driver) (entries : List Entry) (s : State) → Reaches settings rack entries s → Settles settings s
 
 -- how often something happened
@@ -51,8 +51,8 @@ waiting_starts [] = 0
 waiting_starts (task ∷ tasks) = starts_one task.kind + waiting_starts tasks
 
 -- in a run at most 4,096 nodes join for each event
-abbrev pub JoinsLaw : Type 0
-JoinsLaw =
+abbrev pub JoinsAreLimitedLaw : Type 0
+JoinsAreLimitedLaw =
     (settings : Settings) (rack : List Driver) (entries : List Entry) (s : State) → Reaches settings rack entries s → joins entries ≤ 4096 * events entries
 
 -- from each state of a run on, until something happens, at most 4,096 nodes join, and 4,096 more for each `start` task that waits there

@@ -95,5 +95,5 @@ pub record Facts (s : State) : Type 0 where
   pub none : StopsNobody s.operation → NobodyAdrift s
 
 -- in each state of a run
-abbrev pub FactsLaw : Type 0
-FactsLaw = (settings : Settings) (rack : List Driver) (entries : List Entry) (s : State) → Reaches settings rack entries s → Facts s
+abbrev pub FactsAreKeptLaw : Type 0
+FactsAreKeptLaw = (settings : Settings) (rack : List Driver) (entries : List Entry) (s : State) → Reaches settings rack entries s → Facts s

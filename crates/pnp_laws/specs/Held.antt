@@ -16,8 +16,8 @@ abbrev pub AllHoldParts : List Node → Type 0
 AllHoldParts nodes = (k : ℕ) (n : Node) → node_at k nodes ≡ Some n → HoldsPart n
 
 -- in each state of a run
-abbrev pub PartsLaw : Type 0
-PartsLaw = (settings : Settings) (rack : List Driver) (entries : List Entry) (s : State) → Reaches settings rack entries s → AllHoldParts s.core.nodes
+abbrev pub EachHoldsAPartLaw : Type 0
+EachHoldsAPartLaw = (settings : Settings) (rack : List Driver) (entries : List Entry) (s : State) → Reaches settings rack entries s → AllHoldParts s.core.nodes
 
 -- no alternative of these requirements has more groups
 abbrev pub AreWithin : ℕ → Reqs → Type 0

@@ -32,19 +32,19 @@ pub record Keyed (s : State) : Type 0 where
   pub parents : ParentsThere s.core.nodes
 
 -- in each state of a run
-abbrev pub KeysLaw : Type 0
-KeysLaw = (settings : Settings) (rack : List Driver) (entries : List Entry) (s : State) → Reaches settings rack entries s → Keyed s
+abbrev pub NodesAreKeyedLaw : Type 0
+NodesAreKeyedLaw = (settings : Settings) (rack : List Driver) (entries : List Entry) (s : State) → Reaches settings rack entries s → Keyed s
 
 -- nothing depends on itself, by children and relations together
 abbrev pub IsAcyclic : Core → Type 0
 IsAcyclic c = (k : ℕ) → has (dependents c k) k ≡ false
 
-abbrev pub NoCycleLaw : Type 0
-NoCycleLaw = (settings : Settings) (rack : List Driver) (entries : List Entry) (s : State) → Reaches settings rack entries s → IsAcyclic s.core
+abbrev pub NothingDependsOnItselfLaw : Type 0
+NothingDependsOnItselfLaw = (settings : Settings) (rack : List Driver) (entries : List Entry) (s : State) → Reaches settings rack entries s → IsAcyclic s.core
 
 -- no two of all that is reserved or held clash: of one list, which is the list that is printed under `map`
 abbrev pub NothingHeldClashes : Core → Type 0
 NothingHeldClashes c = NoClash (c.reserved ++ held_by c.nodes)
 
-abbrev pub MapLaw : Type 0
-MapLaw = (settings : Settings) (rack : List Driver) (entries : List Entry) (s : State) → Reaches settings rack entries s → NothingHeldClashes s.core
+abbrev pub NothingPrintedClashesLaw : Type 0
+NothingPrintedClashesLaw = (settings : Settings) (rack : List Driver) (entries : List Entry) (s : State) → Reaches settings rack entries s → NothingHeldClashes s.core

@@ -35,8 +35,8 @@ pub record IsHopelessBy (s : State) (path : Text) : Type 0 where
   pub none : NothingFits s.core (frame.target ∷ movers)
 
 -- so it is before each step of a run that prints problem 12
-abbrev pub ListedConflictLaw : Type 0
-ListedConflictLaw =
+abbrev pub EachConflictIsListedLaw : Type 0
+EachConflictIsListedLaw =
     (settings : Settings) (rack : List Driver) (entries : List Entry) (s : State) (entry : Entry) (t : State) (path : Text)
     → Reaches settings rack entries s → Goes settings s entry t → printed entry ≡ Label.Trouble path Problem.NormalConflict
     → IsHopelessBy s path

@@ -43,8 +43,8 @@ abbrev pub IsSaid : List Entry → Text → List Text → List Text → Reqs →
 IsSaid entries path hw compat reqs = IsRoot path hw compat reqs ⊎ (IsPlugged entries path hw compat reqs ⊎ IsChanged entries path hw compat reqs)
 
 -- in each state of a run so it is with each node, but that its requirements are cut to what comes through to it in this state
-abbrev pub PluggedLaw : Type 0
-PluggedLaw =
+abbrev pub NodesArePluggedLaw : Type 0
+NodesArePluggedLaw =
     (settings : Settings) (rack : List Driver) (entries : List Entry) (s : State) → Reaches settings rack entries s
     → (k : ℕ) (n : Node) → node_at k s.core.nodes ≡ Some n → (said : Reqs) × IsSaid entries n.path n.hw n.compat said × (n.reqs ≡ clip s.windows s.core.nodes n.parent said)
 
@@ -60,7 +60,7 @@ IsEntryWithin most (Did label) = Unit {0}
 IsEntryWithin most (Declines label) = Unit {0}
 
 -- so where no event of a run says more, no node of it needs more
-abbrev pub NeedsLaw : Type 0
-NeedsLaw =
+abbrev pub NeedsAreWithinLaw : Type 0
+NeedsAreWithinLaw =
     (settings : Settings) (rack : List Driver) (entries : List Entry) (s : State) → Reaches settings rack entries s
     → (most : ℕ) → AllByRecursion (IsEntryWithin most) entries → NodesWithin most s.core.nodes

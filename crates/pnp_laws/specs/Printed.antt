@@ -23,15 +23,15 @@ pub record TreeIsPrinted (nodes : List Node) : Type 0 where
   pub only : All (λ p. node_at p.node.serial nodes ≡ Some p.node) (print_order nodes)
 
 -- in each state of a run
-abbrev pub TreeLaw : Type 0
-TreeLaw = (settings : Settings) (rack : List Driver) (entries : List Entry) (s : State) → Reaches settings rack entries s → TreeIsPrinted s.core.nodes
+abbrev pub EachNodeIsPrintedOnceLaw : Type 0
+EachNodeIsPrintedOnceLaw = (settings : Settings) (rack : List Driver) (entries : List Entry) (s : State) → Reaches settings rack entries s → TreeIsPrinted s.core.nodes
 
 -- an event of the run gives a driver this name
 abbrev pub IsGiven : List Entry → Text → Type 0
 IsGiven entries name = (kind : DriverKind) × (label : Label) × Contains entries (Happens (Event.Name name kind) label)
 
 -- in each state of a run a driver has the name that it had at the opening, or one that an event gave
-abbrev pub GivenLaw : Type 0
-GivenLaw =
+abbrev pub NamesAreGivenLaw : Type 0
+NamesAreGivenLaw =
     (settings : Settings) (rack : List Driver) (entries : List Entry) (s : State) → Reaches settings rack entries s
     → (d : ℕ) (name : Text) → HasName s.core.rack d name → HasName rack d name ⊎ IsGiven entries name

@@ -26,8 +26,8 @@ abbrev pub Rests : State → Type 0
 Rests s = RestsWith s s.operation
 
 -- a state of a run has no next step exactly where it rests
-abbrev pub QuietLaw : Type 0
-QuietLaw =
+abbrev pub QuietWhereItRestsLaw : Type 0
+QuietWhereItRestsLaw =
     (settings : Settings) (rack : List Driver) (entries : List Entry) (s : State)
     → Reaches settings rack entries s → IsQuiet settings s ↔ Rests s
 
@@ -39,7 +39,7 @@ pub record OneStep (settings : Settings) (s : State) : Type 0 where
   pub only : (other : Label) (state : State) → Steps settings s other state → (other ≡ label) × (state ≡ next)
 
 -- a state of a run that does not rest has exactly one next step
-abbrev pub StepLaw : Type 0
-StepLaw =
+abbrev pub ExactlyOneStepLaw : Type 0
+ExactlyOneStepLaw =
     (settings : Settings) (rack : List Driver) (entries : List Entry) (s : State)
     → Reaches settings rack entries s → (Rests s → ⊥) → OneStep settings s

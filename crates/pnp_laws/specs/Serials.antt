@@ -6,8 +6,8 @@ use Rattle.pnp_model.specs.Runs.{Entry}
 use Rattle.pnp_laws.specs.Ends.{events, joins}
 
 -- the root has serial 0, and each node that joins the next one
-abbrev pub SerialsLaw : Type 0
-SerialsLaw =
+abbrev pub SerialsAreJoinsLaw : Type 0
+SerialsAreJoinsLaw =
     (settings : Settings) (rack : List Driver) (entries : List Entry) (s : State) → Reaches settings rack entries s → s.next_serial ≡ 1 + joins entries
 
 -- at most 4,096 serials are given for each event

@@ -28,8 +28,8 @@ pub record StacksFit (s : State) : Type 0 where
   pub empty : (k : ℕ) (n : Node) → node_at k s.core.nodes ≡ Some n → k ≢ 0 → (n.stack ≡ []) ↔ (n.state ≡ NoStack)
 
 -- in each state of a run
-abbrev pub StacksLaw : Type 0
-StacksLaw = (settings : Settings) (rack : List Driver) (entries : List Entry) (s : State) → Reaches settings rack entries s → StacksFit s
+abbrev pub StacksFitLaw : Type 0
+StacksFitLaw = (settings : Settings) (rack : List Driver) (entries : List Entry) (s : State) → Reaches settings rack entries s → StacksFit s
 
 -- where a driver is asked, or is added, the printed name is that of a driver of the rack
 abbrev pub NamesDriver : Label → List Driver → Type 0
@@ -38,7 +38,7 @@ NamesDriver (Label.Add path name ok) rack = (d : ℕ) × HasName rack d name
 NamesDriver _ rack = Unit {0}
 
 -- in each step of a run
-abbrev pub NamesLaw : Type 0
-NamesLaw =
+abbrev pub NamesAreKnownLaw : Type 0
+NamesAreKnownLaw =
     (settings : Settings) (rack : List Driver) (entries : List Entry) (old : State) (entry : Entry) (new : State)
     → Reaches settings rack entries old → Goes settings old entry new → NamesDriver (printed entry) new.core.rack

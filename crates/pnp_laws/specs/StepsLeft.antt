@@ -13,5 +13,5 @@ CountsSteps settings steps_left =
     (IsQuiet settings s → steps_left s ≡ 0) × ((label : Label) (t : State) → Steps settings s label t → steps_left s ≡ suc (steps_left t))
 
 -- each state has such a number
-abbrev pub StepsLeftLaw : Type 0
-StepsLeftLaw = (settings : Settings) → (steps_left : State → ℕ) × CountsSteps settings steps_left
+abbrev pub StepsAreCountedLaw : Type 0
+StepsAreCountedLaw = (settings : Settings) → (steps_left : State → ℕ) × CountsSteps settings steps_left

@@ -20,7 +20,7 @@ pub record NobodyForgotten (s : State) : Type 0 where
   pub strays : (k : ℕ) (n : Node) → node_at k s.core.nodes ≡ Some n → IsStray s k n → is_due s.tasks s.core.nodes k ≡ true
 
 -- in each state of a run in which no operation runs
-abbrev pub StraysLaw : Type 0
-StraysLaw =
+abbrev pub NobodyIsForgottenLaw : Type 0
+NobodyIsForgottenLaw =
     (settings : Settings) (rack : List Driver) (entries : List Entry) (s : State) → Reaches settings rack entries s → s.operation ≡ None
     → NobodyForgotten s

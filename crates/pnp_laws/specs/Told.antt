@@ -31,7 +31,7 @@ pub record StatesTold (label : Label) (old new : State) : Type 0 where
       → (w : Walk) × IsWalkOf old k w × (has_ended w (length n.stack) ≡ true) × Row n.state w.minor (is_bad w) state
 
 -- in each step of a run
-abbrev pub StatesLaw : Type 0
-StatesLaw =
+abbrev pub StatesAreToldLaw : Type 0
+StatesAreToldLaw =
     (settings : Settings) (rack : List Driver) (entries : List Entry) (old : State) (entry : Entry) (new : State)
     → Reaches settings rack entries old → Goes settings old entry new → StatesTold (printed entry) old new

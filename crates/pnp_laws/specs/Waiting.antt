@@ -36,8 +36,8 @@ pub record OpenHandles (s : State) : Type 0 where
   pub order : HandlesInOrder 0 s.handles
 
 -- in each state of a run
-abbrev pub HandlesLaw : Type 0
-HandlesLaw = (settings : Settings) (rack : List Driver) (entries : List Entry) (s : State) → Reaches settings rack entries s → OpenHandles s
+abbrev pub OpenHandlesFitLaw : Type 0
+OpenHandlesFitLaw = (settings : Settings) (rack : List Driver) (entries : List Entry) (s : State) → Reaches settings rack entries s → OpenHandles s
 
 -- Who was told that it has gone -------------------------------------------------------------------
 
@@ -62,8 +62,8 @@ NeitherRuns None = Unit {0}
 NeitherRuns (Some o) = IsNeither (course_of o.kind)
 
 -- in each state of a run in which neither runs
-abbrev pub DependentsToldLaw : Type 0
-DependentsToldLaw =
+abbrev pub DependentsAreToldLaw : Type 0
+DependentsAreToldLaw =
     (settings : Settings) (rack : List Driver) (entries : List Entry) (s : State) → Reaches settings rack entries s → NeitherRuns s.operation
     → DependentsTold s.core
 
@@ -85,6 +85,6 @@ abbrev pub ReadyDue : State → Type 0
 ReadyDue s = (k : ℕ) (n : Node) → node_at k s.core.nodes ≡ Some n → is_ready_device s.core s.handles n ≡ true → is_to_finish s.tasks k ≡ true
 
 -- in each state of a run in which neither runs
-abbrev pub ReadyLaw : Type 0
-ReadyLaw =
+abbrev pub ReadyOnesAreDueLaw : Type 0
+ReadyOnesAreDueLaw =
     (settings : Settings) (rack : List Driver) (entries : List Entry) (s : State) → Reaches settings rack entries s → NeitherRuns s.operation → ReadyDue s

@@ -19,13 +19,13 @@ InsideWindows s =
     → (w.res.lo ≤ res.lo) × (res.hi ≤ w.res.hi)
 
 -- in each state of a run
-abbrev pub WindowsLaw : Type 0
-WindowsLaw = (settings : Settings) (rack : List Driver) (entries : List Entry) (s : State) → Reaches settings rack entries s → InsideWindows s
+abbrev pub HeldInsideWindowsLaw : Type 0
+HeldInsideWindowsLaw = (settings : Settings) (rack : List Driver) (entries : List Entry) (s : State) → Reaches settings rack entries s → InsideWindows s
 
 -- clipping what a device below the root needs by the windows above it, as they are now, changes nothing
 abbrev pub AreClipped : State → Type 0
 AreClipped s = (k : ℕ) (n : Node) → node_at k s.core.nodes ≡ Some n → k ≢ 0 → clip s.windows s.core.nodes n.parent n.reqs ≡ n.reqs
 
 -- in each state of a run
-abbrev pub ClippedLaw : Type 0
-ClippedLaw = (settings : Settings) (rack : List Driver) (entries : List Entry) (s : State) → Reaches settings rack entries s → AreClipped s
+abbrev pub NeedsAreClippedLaw : Type 0
+NeedsAreClippedLaw = (settings : Settings) (rack : List Driver) (entries : List Entry) (s : State) → Reaches settings rack entries s → AreClipped s

@@ -110,27 +110,27 @@ NothingFits c movers = Fits (fixed_beside c movers) (map (λ k. reqs_of (node_at
 -- The laws of every run ------------------------------------------------------------
 
 -- each change of a device's state is a row of the diagram, and nodes join and leave without drivers
-abbrev pub DiagramLaw : Type 0
-DiagramLaw =
+abbrev pub FollowsDiagramLaw : Type 0
+FollowsDiagramLaw =
     (settings : Settings) (rack : List Driver) (entries : List Entry) (old : State) (entry : Entry) (new : State)
     → Reaches settings rack entries old → Goes settings old entry new
     → FollowsDiagram (printed entry) old.core.nodes new.core.nodes × Walked (printed entry) old.core.nodes new.core.nodes
 
 -- no two resources among all devices' holdings and the reserved ranges clash
-abbrev pub SharingLaw : Type 0
-SharingLaw =
+abbrev pub NothingClashesLaw : Type 0
+NothingClashesLaw =
     (settings : Settings) (rack : List Driver) (entries : List Entry) (s : State)
     → Reaches settings rack entries s → Clear s.core.reserved s.core.nodes
 
 -- devices that are up hold one whole alternative, and devices without drivers hold nothing
-abbrev pub WholeLaw : Type 0
-WholeLaw =
+abbrev pub AllHoldWholeLaw : Type 0
+AllHoldWholeLaw =
     (settings : Settings) (rack : List Driver) (entries : List Entry) (s : State)
     → Reaches settings rack entries s → HoldsWhole s.core.nodes
 
 -- a veto restores everything as it was before the operation began
-abbrev pub VetoLaw : Type 0
-VetoLaw =
+abbrev pub VetoRestoresLaw : Type 0
+VetoRestoresLaw =
     (settings : Settings) (rack : List Driver) (earlier entries : List Entry) (before begun last after : State) (kind end_kind : OpKind) (path end_path refuser : Text)
     → Reaches settings rack earlier before → Goes settings before (Did (Label.Begin kind path)) begun
     → Run settings begun entries last → AllWithin entries
@@ -138,8 +138,8 @@ VetoLaw =
     → Restores before.core after.core
 
 -- a rebalance that found nothing restores everything but the problem of its device
-abbrev pub FutileLaw : Type 0
-FutileLaw =
+abbrev pub FutileRestoresLaw : Type 0
+FutileRestoresLaw =
     (settings : Settings) (rack : List Driver) (earlier entries : List Entry) (before begun last after : State) (path end_path : Text)
     → Reaches settings rack earlier before → Goes settings before (Did (Label.Begin OpKind.Rebalance path)) begun
     → Run settings begun entries last → AllWithin entries
@@ -148,14 +148,14 @@ FutileLaw =
     → RestoresBut path before.core after.core
 
 -- dependents lose their drivers first, and a node leaves only without children
-abbrev pub DependentsLaw : Type 0
-DependentsLaw =
+abbrev pub DependentsFirstLaw : Type 0
+DependentsFirstLaw =
     (settings : Settings) (rack : List Driver) (entries : List Entry) (old : State) (entry : Entry) (new : State)
     → Reaches settings rack entries old → Goes settings old entry new → DependentsFirst (printed entry) old.core new.core
 
 -- problem 12 comes only where no assignment exists for the device and all that can move
-abbrev pub ConflictLaw : Type 0
-ConflictLaw =
+abbrev pub ConflictsAreRealLaw : Type 0
+ConflictsAreRealLaw =
     (settings : Settings) (rack : List Driver) (earlier entries : List Entry) (before begun last after : State) (begin_path path : Text)
     → Reaches settings rack earlier before → Goes settings before (Did (Label.Begin OpKind.Rebalance begin_path)) begun
     → Run settings begun entries last → AllWithin entries

@@ -54,7 +54,7 @@ use Rattle.pnp_laws.proofs.Truths.{or_cases, or_neither, and_both}
 use Rattle.pnp_laws.proofs.Turns.{running_good}
 use Rattle.pnp_laws.proofs.TurnsKept.{running_shut}
 use Rattle.pnp_model.specs.Machine as ma
-use Rattle.pnp_promises.specs.Asks.{AllAnswered, AskLaw, AsksNext, ByBook, EndLaw, Goes_on, IsTurnOf, MayFail, Replies, book_at, fewer, once_more, shows}
+use Rattle.pnp_promises.specs.Asks.{AllAnswered, AsksAreInOrderLaw, AsksNext, ByBook, EndsWhenAnsweredLaw, Goes_on, IsTurnOf, MayFail, Replies, book_at, fewer, once_more, shows}
 
 -- The words ------------------------------------------------------------------------------------------
 
@@ -404,7 +404,7 @@ module _ (s : State) (kept : Kept s) (minor : Minor) (path driver : Text) (shown
 no_word : (label : Label) (minor : Minor) (path driver : Text) (shown : Shown) → IsWord label → label ≡ Label.Asked minor path driver shown → ⊥
 no_word label minor path driver shown word e = subst IsWord e word
 
-pub asks_are_in_order : AskLaw
+pub asks_are_in_order : AsksAreInOrderLaw
 asks_are_in_order settings rack entries s (Did label) t minor path driver shown run goes says =
     by_machine s (reaches_kept settings rack entries s run) minor path driver shown (reaches_own settings rack entries s run) (record { label = label; state = t }) (machine_step settings s (record { label = label; state = t }) goes) says
 asks_are_in_order settings rack entries s (Happens event label) t minor path driver shown run goes says =
@@ -418,7 +418,7 @@ answered_by w n h =
       | inr all ↦ inl (grind (arith, nat_tests))
     ]
 
-pub ends_when_answered : EndLaw
+pub ends_when_answered : EndsWhenAnsweredLaw
 ends_when_answered settings rack entries s entry t path state k n run goes says at named =
     let told = (states_are_told settings rack entries s entry t run goes).walked path state says k n at named in
     (told.0, told.1, answered_by told.0 (length n.stack) told.2)

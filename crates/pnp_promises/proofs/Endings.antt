@@ -13,7 +13,7 @@ use Rattle.pnp_model.specs.Keyed.{in_order, put_before}
 use Rattle.pnp_model.specs.Machine.{phase_walk}
 use Rattle.pnp_model.specs.Records.{Activity, Core, Handle, Job, Node, State, Walk}
 use Rattle.pnp_laws.proofs.Decides.{contains_here, contains_later}
-use Rattle.pnp_promises.specs.Endings.{AtOrBefore, EndTellsLaw, IsOutstanding, IsRow, Rises, place_of_kind, place_of_request, place_of_row}
+use Rattle.pnp_promises.specs.Endings.{AtOrBefore, EndTellsWhatIsLaw, IsOutstanding, IsRow, Rises, place_of_kind, place_of_request, place_of_row}
 
 -- Lists in order ---------------------------------------------------------------------------------------
 
@@ -284,7 +284,7 @@ module _ (s : State) where
       (contains_later (codes "outstanding") _ (handle_line s.core h)
       (Contains-append_right (map (outstanding_line s.core) (outstanding s)) (handles_part s.core s.handles) (handle_line s.core h) (part_has s.handles h there))))))
 
-pub end_tells_what_is : EndTellsLaw
+pub end_tells_what_is : EndTellsWhatIsLaw
 end_tells_what_is settings rack entries s run =
     record {
       map_rows_are = λ h. (row_from s.core h, row_to s.core h);

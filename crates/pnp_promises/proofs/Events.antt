@@ -36,8 +36,8 @@ use Rattle.pnp_laws.proofs.Lookups.{some_same}
 use Rattle.pnp_laws.proofs.OpSteps.{is_Started, is_SurpriseRemoved}
 use Rattle.pnp_laws.proofs.OpenHandles.{open_handles_fit}
 use Rattle.pnp_laws.proofs.Truths.{and_both, both_true, or_cases, or_neither, not_true}
-use Rattle.pnp_promises.specs.Accepted.{AcceptedLaw, ClosedHandle, Done, GotAnswer, IsDone, OneMoreOpen, and_for, answered, with_walk}
-use Rattle.pnp_promises.specs.Refusals.{AwaitsAnswer, Cause, CauseLaw, ChangesNothing, HasBelow, IsExact, IsFirst, NoneHolds, RefusedLaw, TheDevice, TheDriver, TheNode, causes}
+use Rattle.pnp_promises.specs.Accepted.{AcceptedIsDoneLaw, ClosedHandle, Done, GotAnswer, IsDone, OneMoreOpen, and_for, answered, with_walk}
+use Rattle.pnp_promises.specs.Refusals.{AwaitsAnswer, Cause, CausesAreExactLaw, ChangesNothing, HasBelow, IsExact, IsFirst, NoneHolds, RefusedChangesNothingLaw, TheDevice, TheDriver, TheNode, causes}
 use Rattle.pnp_promises.proofs.Counting.{closed_one_less, count_is, is_zero, not_zero, opened_one_more}
 
 -- what the laws on events say of an event that leads to a step
@@ -488,14 +488,14 @@ event_told s order (Event.Unwatch client path) = refuse s (Event.Unwatch client 
 
 -- The laws ------------------------------------------------------------------------------------------
 
-pub refused_changes_nothing : RefusedLaw
+pub refused_changes_nothing : RefusedChangesNothingLaw
 refused_changes_nothing settings rack entries s event label t run goes =
     (subst (λ (x : Step). Told s event x) goes.1 (event_told s (open_handles_fit settings rack entries s run).order event)).nothing
 
-pub causes_are_exact : CauseLaw
+pub causes_are_exact : CausesAreExactLaw
 causes_are_exact settings rack entries s event label t run goes =
     (subst (λ (x : Step). Told s event x) goes.1 (event_told s (open_handles_fit settings rack entries s run).order event)).exact
 
-pub accepted_is_done : AcceptedLaw
+pub accepted_is_done : AcceptedIsDoneLaw
 accepted_is_done settings rack entries s event label t run goes =
     (subst (λ (x : Step). Told s event x) goes.1 (event_told s (open_handles_fit settings rack entries s run).order event)).done

@@ -28,7 +28,7 @@ use Rattle.pnp_laws.proofs.Orders.{picked}
 use Rattle.pnp_laws.proofs.Readies.{ready_fresh, ready_is}
 use Rattle.pnp_laws.proofs.RunsStand.{reaches_kept}
 use Rattle.pnp_laws.proofs.Stages.{ActStep, FinishAct, JobStep}
-use Rattle.pnp_promises.specs.FinishOrder.{FinishOrderLaw, IsReadyAt}
+use Rattle.pnp_promises.specs.FinishOrder.{FinishedFromTheGreatestLaw, IsReadyAt}
 use Rattle.pnp_promises.specs.Hears.{IsAsked}
 
 -- The greatest of a list -----------------------------------------------------------------------------------
@@ -133,6 +133,6 @@ module _ (s : State) (order : Ascending 0 s.core.nodes) where
   by_machine f k w _ runs kind idle (MachineStep.starts node phase m at acts is) asked = absurd (let none = acts.none in cc)
   by_machine f k w _ runs kind idle (MachineStep.does step none is) asked = absurd (cc)
 
-pub finished_from_the_greatest : FinishOrderLaw
+pub finished_from_the_greatest : FinishedFromTheGreatestLaw
 finished_from_the_greatest settings rack entries s label t f k w run runs kind idle goes asked =
     by_machine s (reaches_kept settings rack entries s run).good.serials f k w (record { label = label; state = t }) runs kind idle (machine_step settings s (record { label = label; state = t }) goes) asked

@@ -19,7 +19,7 @@ use Rattle.pnp_laws.proofs.RunsStand.{Kept, reaches_kept}
 use Rattle.pnp_laws.proofs.Stages.{JobStep}
 use Rattle.pnp_laws.proofs.Standing.{OrderKept, Ordered, StageKept, kept_by}
 use Rattle.pnp_laws.proofs.Truths.{or_left}
-use Rattle.pnp_promises.specs.Hears.{HearsLaw, IsAsked, StopOrderLaw, TakesBack}
+use Rattle.pnp_promises.specs.Hears.{RefusersHearLaw, IsAsked, AskedFromTheGreatestLaw, TakesBack}
 use Rattle.pnp_promises.proofs.Asks.{front_is}
 use Rattle.pnp_promises.proofs.Fitting.{asked_is}
 
@@ -119,7 +119,7 @@ module _ (s : State) (kept : Kept s) (k : ℕ) (w : Walk) (back : Minor) (asked 
   by_machine _ (MachineStep.starts node phase m at acts is) = absurd (let none = acts.none in let runs = asked.runs in cc)
   by_machine _ (MachineStep.does step none is) = absurd (let runs = asked.runs in cc)
 
-pub refusers_hear : HearsLaw
+pub refusers_hear : RefusersHearLaw
 refusers_hear settings rack entries s label t k w back run asked bad takes goes =
     by_machine s (reaches_kept settings rack entries s run) k w back asked bad takes (record { label = label; state = t }) (machine_step settings s (record { label = label; state = t }) goes)
 
@@ -133,7 +133,7 @@ head_in : (k : ℕ) (todo : List ℕ) → slice_get todo 0 ≡ Some k → has to
 head_in k [] at = absurd (cc)
 head_in k (i ∷ is) at = let same : i ≡ k = cc in subst (λ (x : ℕ). has (i ∷ is) x ≡ true) same (cons_here i is)
 
-pub asked_from_the_greatest : StopOrderLaw
+pub asked_from_the_greatest : AskedFromTheGreatestLaw
 asked_from_the_greatest settings rack entries s k w run asked is =
     let kept = reaches_kept settings rack entries s run in
     let o = asked.operation in

@@ -23,7 +23,7 @@ use Rattle.pnp_laws.proofs.Lookups.{own_serial, some_same}
 use Rattle.pnp_laws.proofs.OpSteps.{is_Stopped}
 use Rattle.pnp_laws.proofs.RunsStand.{reaches_kept}
 use Rattle.pnp_laws.proofs.Sharing.{part_not}
-use Rattle.pnp_promises.specs.Keeps.{InTurn, IsChanged, IsHandleEvent, KeepsHoldingsLaw, ScriptHandlesLaw, TurnLaw}
+use Rattle.pnp_promises.specs.Keeps.{InTurn, IsChanged, IsHandleEvent, RunningKeepsLaw, HandlesAreTheScriptsLaw, TasksAreInTurnLaw}
 
 -- Tasks --------------------------------------------------------------------------------------------
 
@@ -46,7 +46,7 @@ turn_by s (Happens event label) t h = event_turn s t h
 turn_by s (Did label) t h = step_turn s t h
 turn_by s (Declines label) t h = step_turn s t h
 
-pub tasks_are_in_turn : TurnLaw
+pub tasks_are_in_turn : TasksAreInTurnLaw
 tasks_are_in_turn settings rack entries s entry t run goes = turn_by s entry t (effect_goes settings s entry t goes).tasks
 
 -- Handles ------------------------------------------------------------------------------------------
@@ -56,7 +56,7 @@ by_script s entry t (HandleEffect.same e) = inl e
 by_script s entry t (HandleEffect.opens n path label none at other up is now) = inr (subst IsHandleEvent (sym is) tt)
 by_script s entry t (HandleEffect.closes n path label handle at found is now rest) = inr (subst IsHandleEvent (sym is) tt)
 
-pub handles_are_the_scripts : ScriptHandlesLaw
+pub handles_are_the_scripts : HandlesAreTheScriptsLaw
 handles_are_the_scripts settings rack entries s entry t run goes = by_script s entry t (effect_goes settings s entry t goes).handles
 
 -- Holdings -----------------------------------------------------------------------------------------
@@ -109,7 +109,7 @@ module _ (s : State) (label : Label) (t : State) (good : IsGood s) (k : ℕ) whe
       ]
   keeps n _ at (Origin.joins node d there none own) = absurd (cc)
 
-pub running_keeps : KeepsHoldingsLaw
+pub running_keeps : RunningKeepsLaw
 running_keeps settings rack entries s entry t run goes k n m at now =
     let good = (reaches_kept settings rack entries s run).good in
     let effect = effect_goes settings s entry t goes in

@@ -8,7 +8,7 @@ use Rattle.pnp_model.specs.Records.{Doing, Settings, State, Step}
 use Rattle.pnp_model.specs.Runs.{Entry, Run, opening}
 use Rattle.pnp_model.specs.Runs.Entry.{Happens, Did, Declines}
 use Rattle.pnp_model.proofs.Determined.{one_label, one_state}
-use Rattle.pnp_promises.specs.Later.{LaterLaw, NoneDeclined, happened}
+use Rattle.pnp_promises.specs.Later.{LaterIsNoEarlierLaw, NoneDeclined, happened}
 
 -- where nothing is next, no step is
 quiet_still : (settings : Settings) (s : State) (label : Label) (t : State) → IsQuiet settings s → Steps settings s label t → ⊥
@@ -43,5 +43,5 @@ front_of settings old (Happens event label ∷ xs) (Did label2 ∷ ys) s t more 
 front_of settings old (Did label ∷ xs) (Declines label2 ∷ ys) s t more run other none free quiet e = absurd free
 front_of settings old (Happens event label ∷ xs) (Declines label2 ∷ ys) s t more run other none free quiet e = absurd free
 
-pub later_is_no_earlier : LaterLaw
+pub later_is_no_earlier : LaterIsNoEarlierLaw
 later_is_no_earlier settings rack one two s t more run other none free quiet e = front_of settings (opening rack) one two s t more run other none free quiet e

@@ -19,7 +19,7 @@ use Rattle.pnp_laws.proofs.Ranks.{one_has}
 use Rattle.pnp_laws.proofs.RunsStand.{reaches_kept}
 use Rattle.pnp_laws.proofs.TreeMoves.{edge_cases}
 use Rattle.pnp_laws.proofs.Truths.{and_both, or_left, or_right}
-use Rattle.pnp_promises.specs.Words.{DependsLaw, DependsOn, PathLaw, SamePath}
+use Rattle.pnp_promises.specs.Words.{DependentsAreKnownLaw, DependsOn, PathsNameDevicesLaw, SamePath}
 use Rattle.pnp_promises.proofs.LinesIdle.{found_in, none_passes}
 
 -- Paths ------------------------------------------------------------------------------------------------
@@ -33,7 +33,7 @@ is_same a b e = (bytes_eq-Decides (folded a) (folded b)).1 e
 no_same : (a b : Text) → same a b ≡ false → SamePath a b → ⊥
 no_same a b h e = let z = is_same a b e in cc
 
-pub paths_name_devices : PathLaw
+pub paths_name_devices : PathsNameDevicesLaw
 paths_name_devices settings rack entries s run =
     record {
       node = λ path n at. (found_in (λ (m : Node). same m.path path) s.core.nodes n at, same_is n.path path (find_passes (λ (m : Node). same m.path path) s.core.nodes n at));
@@ -115,7 +115,7 @@ module _ (c : Core) (order : Ascending 0 c.nodes) where
       closed_all : AllDepend k (direct c k) → AllDepend k (dependents c k)
       closed_all first = closed_in_all (AllDepend k) (length c.nodes) c (direct c k) (grown_depend k) first
 
-pub dependents_are_known : DependsLaw
+pub dependents_are_known : DependentsAreKnownLaw
 dependents_are_known settings rack entries s run k j =
     let order = (reaches_kept settings rack entries s run).good.serials in
     (has_depends s.core order k j, depends_has s.core order k j)

@@ -17,7 +17,7 @@ use Rattle.pnp_laws.proofs.EffectsOf.{effect_goes}
 use Rattle.pnp_laws.proofs.Lists.{cons_here, cons_there, has_cases}
 use Rattle.pnp_laws.proofs.Reaching.{kept}
 use Rattle.pnp_laws.proofs.Truths.{or_neither}
-use Rattle.pnp_promises.specs.World.{WorldLaw}
+use Rattle.pnp_promises.specs.World.{WorldStandsLaw}
 
 -- each stands behind its parent, or behind one of these
 abbrev Stand : List ℕ → List Device → Type 0
@@ -142,6 +142,6 @@ stand_first front seen (x ∷ xs) known stands (b ∷ bs) d after e =
           | inr q ↦ let p = known k q in (p.0, Contains-append_left front (x ∷ []) p.0 p.1, p.2)
         ]
 
-pub world_stands : WorldLaw
+pub world_stands : WorldStandsLaw
 world_stands settings rack entries s run before d after e =
     stand_first [] [] s.world (λ k h. absurd (cc)) (always_stands settings rack s (entries, run)) before d after e

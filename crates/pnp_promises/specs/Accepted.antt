@@ -124,7 +124,7 @@ IsDone s event _ t = Unit {0}
 
 -- The law ------------------------------------------------------------------------------------------
 
-abbrev pub AcceptedLaw : Type 0
-AcceptedLaw =
+abbrev pub AcceptedIsDoneLaw : Type 0
+AcceptedIsDoneLaw =
     (settings : Settings) (rack : List Driver) (entries : List Entry) (s : State) (event : Event) (label : Label) (t : State)
     → Reaches settings rack entries s → Goes settings s (Happens event label) t → IsDone s event label t

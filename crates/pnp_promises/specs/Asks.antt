@@ -107,8 +107,8 @@ pub record AsksNext (s : State) (minor : Minor) (path driver : Text) (shown : Sh
   -- no handle is open to a device that is to go in order, or to lose its drivers
   pub closed : (minor ≡ QueryRemove) ⊎ (minor ≡ Remove) → is_open s.handles node.serial ≡ false
 
-abbrev pub AskLaw : Type 0
-AskLaw =
+abbrev pub AsksAreInOrderLaw : Type 0
+AsksAreInOrderLaw =
     (settings : Settings) (rack : List Driver) (entries : List Entry) (s : State) (entry : Entry) (t : State) (minor : Minor) (path driver : Text) (shown : Shown)
     → Reaches settings rack entries s → Goes settings s entry t → printed entry ≡ Label.Asked minor path driver shown → AsksNext s minor path driver shown t
 
@@ -119,8 +119,8 @@ abbrev pub AllAnswered : Walk → ℕ → Type 0
 AllAnswered w n = (n ≤ w.asked) ⊎ (MayFail w.minor × (w.failed ≡ true))
 
 -- the state is printed when the request has ended
-abbrev pub EndLaw : Type 0
-EndLaw =
+abbrev pub EndsWhenAnsweredLaw : Type 0
+EndsWhenAnsweredLaw =
     (settings : Settings) (rack : List Driver) (entries : List Entry) (s : State) (entry : Entry) (t : State) (path : Text) (state : DevState) (k : ℕ) (n : Node)
     → Reaches settings rack entries s → Goes settings s entry t → printed entry ≡ Label.State path state → node_at k s.core.nodes ≡ Some n → n.path ≡ path
     → (w : Walk) × IsWalkOf s k w × AllAnswered w (length n.stack)

@@ -68,5 +68,5 @@ pub record EndTells (s : State) : Type 0 where
   pub map_is_written : (h : Held) → Contains (map_rows s.core) h → Contains (ending s) (map_line h)
   pub handles_are_written : (h : Handle) → Contains s.handles h → Contains (ending s) (spaced (path_of (node_at h.serial s.core.nodes) ∷ decimal h.count ∷ []))
 
-abbrev pub EndTellsLaw : Type 0
-EndTellsLaw = (settings : Settings) (rack : List Driver) (entries : List Entry) (s : State) → Reaches settings rack entries s → EndTells s
+abbrev pub EndTellsWhatIsLaw : Type 0
+EndTellsWhatIsLaw = (settings : Settings) (rack : List Driver) (entries : List Entry) (s : State) → Reaches settings rack entries s → EndTells s

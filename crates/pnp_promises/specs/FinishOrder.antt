@@ -14,8 +14,8 @@ abbrev pub IsReadyAt : State → ℕ → Type 0
 IsReadyAt s k = (n : Node) × (node_at k s.core.nodes ≡ Some n) × (is_ready_device s.core s.handles n ≡ true)
 
 -- in a finish the device that is taken is ready, and no ready device has a greater serial
-abbrev pub FinishOrderLaw : Type 0
-FinishOrderLaw =
+abbrev pub FinishedFromTheGreatestLaw : Type 0
+FinishedFromTheGreatestLaw =
     (settings : Settings) (rack : List Driver) (entries : List Entry) (s : State) (label : Label) (t : State) (f : Job) (k : ℕ) (w : Walk)
     → Reaches settings rack entries s → s.operation ≡ Some f → f.kind ≡ OpKind.Finish → f.walk ≡ None → Goes settings s (Did label) t → IsAsked t k w
     → IsReadyAt s k × ((j : ℕ) → IsReadyAt s j → j ≤ k)

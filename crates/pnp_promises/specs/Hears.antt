@@ -23,8 +23,8 @@ pub data TakesBack : Minor → Minor → Type 0 where
   stop : TakesBack Minor.QueryStop Minor.CancelStop
 
 -- a device that refuses is told at once that it stays
-abbrev pub HearsLaw : Type 0
-HearsLaw =
+abbrev pub RefusersHearLaw : Type 0
+RefusersHearLaw =
     (settings : Settings) (rack : List Driver) (entries : List Entry) (s : State) (label : Label) (t : State) (k : ℕ) (w : Walk) (back : Minor)
     → Reaches settings rack entries s → IsAsked s k w → is_bad w ≡ true → TakesBack w.minor back → Goes settings s (Did label) t → IsAsked t k (walk_of back)
 
@@ -34,7 +34,7 @@ pub record FromTheGreatest (s : State) (o : Job) (k : ℕ) : Type 0 where
   pub left : (j : ℕ) → has (rest o.todo) j ≡ true → j < k
   pub agreed : (j : ℕ) → has o.agreed j ≡ true → k < j
 
-abbrev pub StopOrderLaw : Type 0
-StopOrderLaw =
+abbrev pub AskedFromTheGreatestLaw : Type 0
+AskedFromTheGreatestLaw =
     (settings : Settings) (rack : List Driver) (entries : List Entry) (s : State) (k : ℕ) (w : Walk)
     → Reaches settings rack entries s → (asked : IsAsked s k w) → w.minor ≡ Minor.QueryStop → FromTheGreatest s asked.operation k

@@ -22,8 +22,8 @@ pub data InTurn (s t : State) : Type 0 where
   failed : (n : Node) (o : Job) → s.operation ≡ Some o → course_of o.kind ≡ Course.Rebalancing → o.stage ≡ Stage.Failed → first_node s.core.nodes o.todo ≡ Some n
       → t.tasks ≡ task (Duty.Begins OpKind.Surprise) n ∷ s.tasks → InTurn s t
 
-abbrev pub TurnLaw : Type 0
-TurnLaw =
+abbrev pub TasksAreInTurnLaw : Type 0
+TasksAreInTurnLaw =
     (settings : Settings) (rack : List Driver) (entries : List Entry) (s : State) (entry : Entry) (t : State)
     → Reaches settings rack entries s → Goes settings s entry t → InTurn s t
 
@@ -36,8 +36,8 @@ IsHandleEvent (Happens (Event.CloseHandle path) label) = Unit {0}
 IsHandleEvent entry = ⊥
 
 -- nothing else opens or closes one
-abbrev pub ScriptHandlesLaw : Type 0
-ScriptHandlesLaw =
+abbrev pub HandlesAreTheScriptsLaw : Type 0
+HandlesAreTheScriptsLaw =
     (settings : Settings) (rack : List Driver) (entries : List Entry) (s : State) (entry : Entry) (t : State)
     → Reaches settings rack entries s → Goes settings s entry t → (t.handles ≡ s.handles) ⊎ IsHandleEvent entry
 
@@ -53,7 +53,7 @@ KeepsHoldings s t =
     (k : ℕ) (n m : Node) → node_at k s.core.nodes ≡ Some n → node_at k t.core.nodes ≡ Some m
     → ((m.holds ≡ n.holds) × (m.reqs ≡ n.reqs)) ⊎ (((n.state ≡ NotStarted) ⊎ (n.state ≡ Stopped)) ⊎ ((m.state ≡ NoStack) ⊎ IsChanged s k))
 
-abbrev pub KeepsHoldingsLaw : Type 0
-KeepsHoldingsLaw =
+abbrev pub RunningKeepsLaw : Type 0
+RunningKeepsLaw =
     (settings : Settings) (rack : List Driver) (entries : List Entry) (s : State) (entry : Entry) (t : State)
     → Reaches settings rack entries s → Goes settings s entry t → KeepsHoldings s t

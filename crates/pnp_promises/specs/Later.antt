@@ -22,8 +22,8 @@ NoneDeclined (entry ∷ rest) = NoneDeclined rest
 
 -- over the same drivers and INFs, where the events of one run stand at the front of those of another, which has come to rest, all that
 -- the one did and printed stands at the front of what the other did
-abbrev pub LaterLaw : Type 0
-LaterLaw =
+abbrev pub LaterIsNoEarlierLaw : Type 0
+LaterIsNoEarlierLaw =
     (settings : Settings) (rack : List Driver) (one two : List Entry) (s t : State) (more : List Event)
     → Reaches settings rack one s → Reaches settings rack two t → NoneDeclined one → NoneDeclined two → IsQuiet settings t → happened two ≡ happened one ++ more
     → (rest : List Entry) × (two ≡ one ++ rest)

@@ -244,7 +244,7 @@ Means settings s (Label.End kind path result) t = Ended s kind path result t
 Means settings s _ t = Unit {0}
 
 -- what a line says is so
-abbrev pub MeaningLaw : Type 0
-MeaningLaw =
+abbrev pub LinesMeanWhatTheySayLaw : Type 0
+LinesMeanWhatTheySayLaw =
     (settings : Settings) (rack : List Driver) (entries : List Entry) (s : State) (label : Label) (t : State)
     → Reaches settings rack entries s → Goes settings s (Did label) t → Means settings s label t

@@ -205,12 +205,12 @@ ChangesNothing s _ t = Unit {0}
 
 -- The laws -----------------------------------------------------------------------------------------
 
-abbrev pub RefusedLaw : Type 0
-RefusedLaw =
+abbrev pub RefusedChangesNothingLaw : Type 0
+RefusedChangesNothingLaw =
     (settings : Settings) (rack : List Driver) (entries : List Entry) (s : State) (event : Event) (label : Label) (t : State)
     → Reaches settings rack entries s → Goes settings s (Happens event label) t → ChangesNothing s label t
 
-abbrev pub CauseLaw : Type 0
-CauseLaw =
+abbrev pub CausesAreExactLaw : Type 0
+CausesAreExactLaw =
     (settings : Settings) (rack : List Driver) (entries : List Entry) (s : State) (event : Event) (label : Label) (t : State)
     → Reaches settings rack entries s → Goes settings s (Happens event label) t → IsExact s event label

@@ -23,8 +23,8 @@ pub record FindsByPath (s : State) : Type 0 where
   pub device : (path : Text) (d : Device) → device_of path s.world ≡ Some d → Contains s.world d × SamePath d.path path
   pub no_device : (path : Text) → device_of path s.world ≡ None → (d : Device) → Contains s.world d → SamePath d.path path → ⊥
 
-abbrev pub PathLaw : Type 0
-PathLaw = (settings : Settings) (rack : List Driver) (entries : List Entry) (s : State) → Reaches settings rack entries s → FindsByPath s
+abbrev pub PathsNameDevicesLaw : Type 0
+PathsNameDevicesLaw = (settings : Settings) (rack : List Driver) (entries : List Entry) (s : State) → Reaches settings rack entries s → FindsByPath s
 
 -- Who depends on whom ------------------------------------------------------------------------------------
 
@@ -39,5 +39,5 @@ pub data DependsOn (c : Core) : ℕ → ℕ → Type 0 where
 abbrev pub DependentsAre : Core → Type 0
 DependentsAre c = (k j : ℕ) → (has (dependents c k) j ≡ true) ↔ DependsOn c k j
 
-abbrev pub DependsLaw : Type 0
-DependsLaw = (settings : Settings) (rack : List Driver) (entries : List Entry) (s : State) → Reaches settings rack entries s → DependentsAre s.core
+abbrev pub DependentsAreKnownLaw : Type 0
+DependentsAreKnownLaw = (settings : Settings) (rack : List Driver) (entries : List Entry) (s : State) → Reaches settings rack entries s → DependentsAre s.core

@@ -8,5 +8,5 @@ use Rattle.pnp_model.specs.Runs.{Entry}
 abbrev pub ParentsFirst : List Device → Type 0
 ParentsFirst world = (before : List Device) (d : Device) (after : List Device) → world ≡ before ++ d ∷ after → (d.born ≡ 0) ⊎ ((p : Device) × Contains before p × (p.born ≡ d.parent))
 
-abbrev pub WorldLaw : Type 0
-WorldLaw = (settings : Settings) (rack : List Driver) (entries : List Entry) (s : State) → Reaches settings rack entries s → ParentsFirst s.world
+abbrev pub WorldStandsLaw : Type 0
+WorldStandsLaw = (settings : Settings) (rack : List Driver) (entries : List Entry) (s : State) → Reaches settings rack entries s → ParentsFirst s.world

@@ -1,60 +1,60 @@
 //! What holds of every run of the device machine, in a reader's words.
 
-ghost use Rattle.pnp_promises.specs.Accepted.{AcceptedLaw};
-ghost use Rattle.pnp_promises.specs.Asks.{AskLaw, EndLaw};
-ghost use Rattle.pnp_promises.specs.Endings.{EndTellsLaw};
-ghost use Rattle.pnp_promises.specs.FinishOrder.{FinishOrderLaw};
-ghost use Rattle.pnp_promises.specs.Hears.{HearsLaw, StopOrderLaw};
-ghost use Rattle.pnp_promises.specs.Keeps.{KeepsHoldingsLaw, ScriptHandlesLaw, TurnLaw};
-ghost use Rattle.pnp_promises.specs.Later.{LaterLaw};
-ghost use Rattle.pnp_promises.specs.Lines.{MeaningLaw};
-ghost use Rattle.pnp_promises.specs.Refusals.{CauseLaw, RefusedLaw};
-ghost use Rattle.pnp_promises.specs.Words.{DependsLaw, PathLaw};
-ghost use Rattle.pnp_promises.specs.World.{WorldLaw};
+ghost use Rattle.pnp_promises.specs.Accepted.{AcceptedIsDoneLaw};
+ghost use Rattle.pnp_promises.specs.Asks.{AsksAreInOrderLaw, EndsWhenAnsweredLaw};
+ghost use Rattle.pnp_promises.specs.Endings.{EndTellsWhatIsLaw};
+ghost use Rattle.pnp_promises.specs.FinishOrder.{FinishedFromTheGreatestLaw};
+ghost use Rattle.pnp_promises.specs.Hears.{RefusersHearLaw, AskedFromTheGreatestLaw};
+ghost use Rattle.pnp_promises.specs.Keeps.{RunningKeepsLaw, HandlesAreTheScriptsLaw, TasksAreInTurnLaw};
+ghost use Rattle.pnp_promises.specs.Later.{LaterIsNoEarlierLaw};
+ghost use Rattle.pnp_promises.specs.Lines.{LinesMeanWhatTheySayLaw};
+ghost use Rattle.pnp_promises.specs.Refusals.{CausesAreExactLaw, RefusedChangesNothingLaw};
+ghost use Rattle.pnp_promises.specs.Words.{DependentsAreKnownLaw, PathsNameDevicesLaw};
+ghost use Rattle.pnp_promises.specs.World.{WorldStandsLaw};
 
 /// A refused event changes nothing.
 pub fn refused_changes_nothing()
-    ensures { RefusedLaw }
+    ensures { RefusedChangesNothingLaw }
 {}
 
 /// Where an event is refused, the printed cause is the first that holds, in the order of the causes; where it is accepted,
 /// none of them holds.
 pub fn causes_are_exact()
-    ensures { CauseLaw }
+    ensures { CausesAreExactLaw }
 {}
 
 /// An accepted event is done: what it names stands where it says, and nothing else changed.
 pub fn accepted_is_done()
-    ensures { AcceptedLaw }
+    ensures { AcceptedIsDoneLaw }
 {}
 
 /// Tasks are taken in turn: a new one stands last, and the first is taken, while no operation runs. But a device that failed
 /// its START again after it was stopped is removed before all else.
 pub fn tasks_are_in_turn()
-    ensures { TurnLaw }
+    ensures { TasksAreInTurnLaw }
 {}
 
 /// Handles are opened and closed by the script alone.
 pub fn handles_are_the_scripts()
-    ensures { ScriptHandlesLaw }
+    ensures { HandlesAreTheScriptsLaw }
 {}
 
 /// A running device keeps what it needs and holds: both change only where it is not started yet, or is stopped, or loses its
 /// drivers, or is the device of a change that is made.
 pub fn running_keeps()
-    ensures { KeepsHoldingsLaw }
+    ensures { RunningKeepsLaw }
 {}
 
 /// A driver is asked only where all before it in the request's order have answered, none waits, and none that may fail has
 /// failed; where the device is in a state that has a row for the request; and, for QUERY_REMOVE and REMOVE, where no handle to
 /// the device is open. START and what takes back a query go from the bottom of the stack up, all others from the top down.
 pub fn asks_are_in_order()
-    ensures { AskLaw }
+    ensures { AsksAreInOrderLaw }
 {}
 
 /// A state is printed when the request has ended: all drivers have answered, or one that may fail has failed.
 pub fn ends_when_answered()
-    ensures { EndLaw }
+    ensures { EndsWhenAnsweredLaw }
 {}
 
 /// What a line of the output says is so: a task that is skipped has nothing to do; what joins is of the world, below its parent's
@@ -62,50 +62,50 @@ pub fn ends_when_answered()
 /// a problem has its cause, and the device has it; where nothing fits, nothing fits; an operation takes its device and all that
 /// depends on it; who refuses unasked is held open; who leaves is gone; and an end says what was done.
 pub fn lines_mean_what_they_say()
-    ensures { MeaningLaw }
+    ensures { LinesMeanWhatTheySayLaw }
 {}
 
 /// The end of the output tells what is: under `map` stands what is reserved and what devices hold, and nothing else, by kind, first
 /// and last number and holder; under `outstanding` the requests that wait for an answer, and nothing else, by serial; and each
 /// device to which a handle is open has a line with their number.
 pub fn end_tells_what_is()
-    ensures { EndTellsLaw }
+    ensures { EndTellsWhatIsLaw }
 {}
 
 /// A device that refuses to stop or to be removed is told at once that it stays.
 pub fn refusers_hear()
-    ensures { HearsLaw }
+    ensures { RefusersHearLaw }
 {}
 
 /// Devices are asked whether they may stop from the greatest serial down, so a child before its parent.
 pub fn asked_from_the_greatest()
-    ensures { StopOrderLaw }
+    ensures { AskedFromTheGreatestLaw }
 {}
 
 /// A path names the device that has it, in any letters; and where none is found, none has it.
 pub fn paths_name_devices()
-    ensures { PathLaw }
+    ensures { PathsNameDevicesLaw }
 {}
 
 /// The dependents of a device are its children, the members that are related to it for removal or for ejection, and who depends
 /// on one of these; and nobody else.
 pub fn dependents_are_known()
-    ensures { DependsLaw }
+    ensures { DependentsAreKnownLaw }
 {}
 
 /// Each device of the world but the root stands behind its parent, which is in the world: where a device is pulled, nobody below
 /// it stays.
 pub fn world_stands()
-    ensures { WorldLaw }
+    ensures { WorldStandsLaw }
 {}
 
 /// Later is no earlier: where the events of one run stand at the front of those of another, over the same drivers and INFs, all that
 /// the one did and printed stands at the front of what the other did. So what a script printed does not depend on what comes after it.
 pub fn later_is_no_earlier()
-    ensures { LaterLaw }
+    ensures { LaterIsNoEarlierLaw }
 {}
 
 /// In a finish the device that is taken is ready, and no ready device has a greater serial.
 pub fn finished_from_the_greatest()
-    ensures { FinishOrderLaw }
+    ensures { FinishedFromTheGreatestLaw }
 {}
