@@ -1,7 +1,7 @@
 -- What is printed for each cause.
 use Rattle.std.specs.Prelude.{codes}
 use Rattle.pnp_labels.specs.Texts.{Text}
-use Rattle.script_lint.specs.declared.cause.Cause.{Cause}
+use Rattle.script_reader.specs.declared.cause.Cause.{Cause}
 
 abbrev pub cause_text : Cause → Text
 cause_text Cause.LongLine = codes "begins a line of more than 4096 bytes"

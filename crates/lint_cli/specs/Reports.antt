@@ -6,7 +6,7 @@ use Rattle.std.specs.Str.{bytes_eq}
 use Rattle.pnp_labels.specs.Texts.{Text}
 use Rattle.inf_reader.specs.declared.parts.InfError.{InfError}
 use Rattle.inf_reader.specs.declared.parts.InfError.TheVariants as errors
-use Rattle.script_lint.specs.Faults.{Fault}
+use Rattle.script_reader.specs.Faults.{Fault}
 use Rattle.script_lint.specs.Script.{Bad, faults_in}
 use Rattle.lint_cli.specs.Causes.{cause_text}
 

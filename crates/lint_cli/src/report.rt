@@ -1,6 +1,6 @@
 //! What is written of the bad lines of a script.
 ghost use Rattle.std.specs.Prelude.{◌≡◌, ◌++◌, IfOk, OnOk};
-ghost use Rattle.script_lint.specs.Faults.{seen};
+ghost use Rattle.script_reader.specs.Faults.{seen};
 ghost use Rattle.script_lint.specs.Script.{told};
 ghost use Rattle.lint_cli.specs.Reports.{fault_words, fault_text, bad_text, bad_texts, is_space, opens_inf, is_marked, hint_text, script_text};
 ghost use Rattle.lint_cli.specs.Lints.{is_bad_script};

@@ -1,4 +1,3 @@
-mod BytesWithin
 pub mod FewIds
 pub mod Fronts
 pub mod FrontEntries

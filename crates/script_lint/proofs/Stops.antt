@@ -4,9 +4,9 @@ use Rattle.std.specs.Option.{is_some}
 use Rattle.device_ids.specs.Cuts.{parts}
 use Rattle.script_reader.specs.Script.{Meaning, nothing, means, bad, Trace, ends, onward, of_lines, whole_line, last_line, trace}
 use Rattle.script_reader.proofs.Gathering.{some_parts}
-use Rattle.script_lint.specs.Faults.{Fault}
+use Rattle.script_reader.specs.Faults.{Fault}
 use Rattle.script_lint.specs.Script.{line_fault, is_bad, Bad, found_at, last_faults, faults_from, faults_in, first_line, stop_of}
-use Rattle.script_lint.proofs.ExactLines.{line_tells}
+use Rattle.script_lint.proofs.Exact.{tells}
 
 found : (f : Option Fault) (m : Meaning) (n : ℕ) (more : List Bad) (t : Trace) → is_some f ≡ is_bad m → first_line more ≡ stop_of t
     → first_line (found_at n f ++ more) ≡ stop_of (onward n m t)
@@ -22,10 +22,10 @@ same_stop passed [] = refl
 same_stop passed ([] ∷ []) = refl
 same_stop passed ((byte ∷ rest) ∷ []) =
     ap first_line (sym (append-nil (found_at (passed + 1) (line_fault false (byte ∷ rest)))))
-    ∙ found (line_fault false (byte ∷ rest)) (last_line (byte ∷ rest)) (passed + 1) [] ends (line_tells false (byte ∷ rest)) refl
+    ∙ found (line_fault false (byte ∷ rest)) (last_line (byte ∷ rest)) (passed + 1) [] ends (tells false (byte ∷ rest)) refl
 same_stop passed (line ∷ next ∷ lines) =
     found (line_fault true line) (whole_line line) (passed + 1) (faults_from (passed + 1) (next ∷ lines)) (of_lines true (passed + 1) (next ∷ lines))
-    (line_tells true line) (same_stop (passed + 1) (next ∷ lines))
+    (tells true line) (same_stop (passed + 1) (next ∷ lines))
 
 pub stops_at_first : (bads : List Bad) (script : List ℕ) → bads ≡ faults_in script → first_line bads ≡ stop_of (trace true 0 script)
 stops_at_first bads script is = ap first_line is ∙ same_stop 0 (parts 0x0A script)

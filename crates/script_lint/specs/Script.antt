@@ -1,25 +1,32 @@
 -- What is wrong with a line, and with each line of a script.
-use Rattle.std.specs.Prelude.{ℕ, ◌+◌, Bool, true, false, nat_le, List, [], ◌∷◌, ◌++◌, length, Option, Some, None, if◌then◌else◌}
+use Rattle.std.specs.Prelude.{ℕ, ◌+◌, Bool, true, false, nat_le, List, [], ◌∷◌, ◌++◌, length, Option, Some, None, Result, Ok, Err, if◌then◌else◌}
 use Rattle.std.specs.Str.Lines.{strip_carriage_return}
 use Rattle.device_ids.specs.Cuts.{parts}
 use Rattle.script_reader.specs.Words.{words_of}
 use Rattle.script_reader.specs.Script.{Meaning, nothing, means, bad, is_comment, whole_line, last_line, Trace, gives, waits, ends, stops}
-use Rattle.script_lint.specs.declared.cause.Cause.{Cause}
+use Rattle.script_reader.specs.Faults.{Fault, fault, seen}
+use Rattle.script_reader.specs.Lines.{read_line}
+use Rattle.script_reader.specs.declared.cause.Cause.{Cause}
 use Rattle.script_lint.specs.declared.script.BadLine.{BadLine}
-use Rattle.script_lint.specs.Faults.{Fault, fault, seen}
-use Rattle.script_lint.specs.Lines.{event_fault}
+
+abbrev pub fault_in : {A : Type 0} → Result A Fault → Option Fault
+fault_in (Ok x) = None
+fault_in (Err f) = Some f
 
 -- no words, or a comment; else what is wrong with the words
 abbrev pub words_fault : List (List ℕ) → Option Fault
 words_fault [] = None
-words_fault (word ∷ words) = if is_comment word then None else event_fault word words
+words_fault (word ∷ words) = if is_comment word then None else fault_in (read_line (word ∷ words))
+
+abbrev pub text_fault : List ℕ → Option Fault
+text_fault text = words_fault (words_of text)
 
 -- a line of at most 4,096 bytes; one CR at its end is dropped where an LF is behind it
 abbrev pub body_of : Bool → List ℕ → List ℕ
 body_of ended line = if ended then strip_carriage_return line else line
 
 abbrev pub line_fault : Bool → List ℕ → Option Fault
-line_fault ended line = if nat_le (length line) 4096 then words_fault (words_of (body_of ended line)) else Some (fault Cause.LongLine line)
+line_fault ended line = if nat_le (length line) 4096 then text_fault (body_of ended line) else Some (fault Cause.LongLine line)
 
 -- what the reader says of the line
 abbrev pub meaning : Bool → List ℕ → Meaning

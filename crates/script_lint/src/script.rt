@@ -2,12 +2,12 @@
 ghost use Rattle.std.specs.Prelude.{◌≡◌, ◌++◌, OnOk, IfOk, map, true};
 ghost use Rattle.std.specs.Option.{option_map};
 ghost use Rattle.script_reader.specs.Script.{trace};
-ghost use Rattle.script_lint.specs.Faults.{seen};
+ghost use Rattle.script_reader.specs.Faults.{seen};
 ghost use Rattle.script_lint.specs.Script.{found_at, told, faults_in, first_line, stop_of};
 
-use crate::fault::LineFault;
 use crate::line::fault_of;
 use device_ids::split_once;
+use script_reader::LineFault;
 use std::alloc::{AllocError, Global};
 
 /// A bad line of a script: its number, counted from 1, and what is wrong with it. This project's own.

@@ -1,8 +1,7 @@
--- The loop over the digits of bytes; bytes with something beside them.
+-- The loop over the digits of bytes.
 use Rattle.std.proofs.Common.{ℕ, ◌≡◌, ◌≤◌, List, [], ◌∷◌, ◌++◌, length, take, drop, Option, Some, None, refl, sym, ap, ◌∙◌, append_assoc, append-nil, arith}
 use Rattle.script_reader.specs.Numbers.{◌>>=◌}
 use Rattle.script_reader.specs.Bytes.{hex_pair, hex_bytes}
-use Rattle.script_reader.specs.Lines.{reqs_from}
 
 -- with those that were read before
 abbrev pub with_front : List ℕ → Option (List ℕ) → Option (List ℕ)
@@ -38,14 +37,3 @@ pub one_left : (front rest : List ℕ) (read : Option (List ℕ)) → length res
 one_left front [] read e inv = absurd (cc)
 one_left front (x ∷ []) read e inv = sym inv
 one_left front (x ∷ y ∷ more) read e inv = absurd (omega arith)
-
--- Beside the bytes ---------------------------------------------------------------------------
-
-pub alone_other : (text : List ℕ) (needs : List (List ℕ)) → 1 ≤ length needs → reqs_from (text ∷ []) needs ≡ None
-alone_other text [] some = absurd (omega arith)
-alone_other text (need ∷ needs) some = refl
-
-pub twice_other : (texts needs : List (List ℕ)) → 2 ≤ length texts → reqs_from texts needs ≡ None
-twice_other [] needs two = absurd (omega arith)
-twice_other (text ∷ []) needs two = absurd (omega arith)
-twice_other (text ∷ second ∷ more) needs two = refl

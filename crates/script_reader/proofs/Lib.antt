@@ -1,9 +1,9 @@
 pub mod Digits
+pub mod Ranges
 pub mod HexBytes
 pub mod Wording
 pub mod Paths
 pub mod Gathering
-pub mod Counting
 pub mod Errors
 pub mod Sifting
 pub mod Scripts
@@ -11,8 +11,7 @@ pub mod Skipping
 pub mod Moving
 pub mod Feeding
 pub mod Rows
-pub mod Shapes
 pub mod Taking
 pub mod Pieces
-pub mod Plugging
 pub mod OneReading
+pub mod FewIds

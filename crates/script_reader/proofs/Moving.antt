@@ -1,19 +1,21 @@
 -- How a call of a reader passes over the script.
-use Rattle.std.proofs.Common.{◌≡◌, ℕ, ◌+◌, ◌≤◌, List, [], ◌∷◌, ◌++◌, length, take, drop, Bool, refl, sym, ◌∙◌, ap, arith, append_assoc, length-drop, subst, ◌-◌, add_assoc, Bor, Result, Ok, Err, IfOk, Some, true}
+use Rattle.std.proofs.Common.{◌≡◌, ℕ, ◌+◌, ◌≤◌, List, [], ◌∷◌, ◌++◌, length, take, drop, Bool, refl, sym, ◌∙◌, ap, arith, append_assoc, length-drop, subst, ◌-◌, add_assoc, Bor, Ok, true}
 use Rattle.std.proofs.lemmas.List.{take-append-drop, drop-drop}
 use Rattle.pnp_labels.specs.declared.event.Event.{Event}
 use Rattle.script_reader.specs.declared.line.Line.{Line}
 use Rattle.script_reader.specs.declared.fault.LineError.{LineError}
-use Rattle.script_reader.specs.Faults.{Gives}
-use Rattle.script_reader.specs.Openings.{LeadsTo, event_at}
+use Rattle.std.specs.Result.{result_ok}
+use Rattle.script_reader.specs.Faults.{Fails, is_bad}
+use Rattle.script_reader.specs.Openings.{LeadsTo}
 use Rattle.script_reader.specs.declared.events.Opening.TheVariants as openings
 use Rattle.pnp_labels.specs.declared.label.EventWord.{EventWord}
-use Rattle.script_reader.specs.Lines.{event_of}
+use Rattle.script_reader.specs.Lines.{read_line, event_at}
 use Rattle.script_reader.specs.Words.{words_of}
 use Rattle.script_reader.specs.Script.{trace, gives, MayFollow, GivesEvent, IsStuck}
 use Rattle.script_reader.specs.declared.step.Step.{Step}
 use Rattle.script_reader.specs.declared.step.Step.TheVariants as steps
 use Rattle.script_reader.specs.Steps.{Says, Reads, IsNoSkip}
+use Rattle.script_reader.proofs.Errors.{bad_has_none}
 use Rattle.script_reader.proofs.Skipping.{rest_is}
 use Rattle.script_reader.specs.Reading.{Reading, Moves, SkipsTo}
 use Rattle.script_reader.specs.Answers.{Answers, given}
@@ -97,14 +99,18 @@ answer_dropped old bytes from kept at passed line fed finished bad_ later count 
     (sym (drop-drop count at bytes)) refl refl refl (omega (arith, length-drop (at + count) bytes)) (skips_here bytes from at finished count lines same so)))
 
 -- what was read of a line is its event
-pub gives_event : (finished : Bool) (rest : List ℕ) (k : ℕ) (text : List ℕ) (read : Result Event LineError) → Reads finished rest k text
-    → Gives read (event_of (words_of text)) → IfOk read (λ event. GivesEvent finished rest k event)
-gives_event finished rest k text (Ok event) says is = says.gives_event event is
-gives_event finished rest k text (Err fault) says is = tt
+pub gives_event : (finished : Bool) (rest : List ℕ) (k : ℕ) (text : List ℕ) (event : Event) → Reads finished rest k text
+    → read_line (words_of text) ≡ Ok event → GivesEvent finished rest k event
+gives_event finished rest k text event says is = says.gives_event event (ap result_ok is)
 
 pub gives_at : (finished : Bool) (rest : List ℕ) (k : ℕ) (text : List ℕ) (keyword : EventWord) (path : List ℕ) (event : Event) → Reads finished rest k text
-    → LeadsTo (openings.At keyword path) (event_of (words_of text)) → event ≡ event_at keyword path → GivesEvent finished rest k event
-gives_at finished rest k text keyword path event says leads is = says.gives_event event (leads.1 ∙ ap Some (sym is))
+    → LeadsTo (openings.At keyword path) (read_line (words_of text)) → event ≡ event_at keyword path → GivesEvent finished rest k event
+gives_at finished rest k text keyword path event says leads is = gives_event finished rest k text event says (leads.1 ∙ ap (λ e. Ok e) (sym is))
+
+-- and a line with a fault has none
+pub gives_none : (finished : Bool) (rest : List ℕ) (k : ℕ) (text : List ℕ) (error : LineError) → Reads finished rest k text
+    → Fails error (read_line (words_of text)) → is_bad error ≡ true → IsStuck finished rest
+gives_none finished rest k text error says fails bad = says.is_stuck (bad_has_none error (read_line (words_of text)) bad fails)
 
 pub answer_event : (old : Reading) (bytes : List ℕ) (at passed line fed : ℕ) (finished bad_ : Bool) (count lines k : ℕ) (event : Event)
     → seen bytes at passed line fed finished bad_ ≡ old → SkipsTo old.finished old.rest count lines

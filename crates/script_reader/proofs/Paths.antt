@@ -1,5 +1,5 @@
 -- A path has no blanks: it is one word.
-use Rattle.std.proofs.Common.{◌≡◌, ℕ, ◌-◌, ◌<◌, List, [], ◌∷◌, ◌++◌, length, take, drop, true, false, Some, None, sym, ◌∙◌, ap, arith, append_assoc, not, ◌==◌, ◌&&◌, IsTrue}
+use Rattle.std.proofs.Common.{◌≡◌, ℕ, ◌-◌, ◌<◌, List, [], ◌∷◌, ◌++◌, length, take, drop, true, false, Some, None, Ok, Err, sym, ◌∙◌, ap, arith, append_assoc, not, ◌==◌, ◌&&◌, IsTrue}
 use Rattle.std.proofs.lemmas.Grind.{common_steps}
 use Rattle.std.proofs.lemmas.Bool.Decides.{nat_tests}
 use Rattle.std.proofs.lemmas.List.Elements.{All-weaker}
@@ -10,7 +10,8 @@ use Rattle.std.specs.List.{filter, list_all, position, join_with_byte}
 use Rattle.device_ids.specs.Cuts.{parts}
 use Rattle.device_ids.specs.Ids.{is_id, is_id_byte, is_path, are_ids, joined}
 use Rattle.script_reader.specs.Lines.{lone_path}
-use Rattle.script_reader.specs.Numbers.{only_if}
+use Rattle.script_reader.specs.Faults.{fault, ok_if}
+use Rattle.script_reader.specs.declared.cause.Cause.{Cause}
 use Rattle.script_reader.specs.Words.{is_blank, words_of}
 use Rattle.script_reader.proofs.Wording.{kept, behind_start, no_word, rest_is}
 
@@ -48,12 +49,12 @@ one_word text path =
     ∙ kept text [] (some_bytes text path)
 
 -- what stands behind the blanks is a path
-pub path_behind : (line path : List ℕ) (start : ℕ) → position (λ byte. not (is_blank byte)) line ≡ Some start
-    → path ≡ take (length line - start) (drop start line) → IsTrue (is_path path) → lone_path (words_of line) ≡ Some path
-path_behind line path start some is legal =
+pub path_behind : (keyword line path : List ℕ) (start : ℕ) → position (λ byte. not (is_blank byte)) line ≡ Some start
+    → path ≡ take (length line - start) (drop start line) → IsTrue (is_path path) → lone_path keyword (words_of line) ≡ Ok path
+path_behind keyword line path start some is legal =
     let same : drop start line ≡ path = sym (is ∙ rest_is line start) in
     let words : words_of line ≡ path ∷ [] = behind_start line start some ∙ ap words_of same ∙ one_word path legal in
-    ap lone_path words ∙ ap (λ b. only_if b path) legal
+    ap (lone_path keyword) words ∙ ap (λ b. ok_if b path (fault Cause.NotPath path)) legal
 
-pub no_path : (line : List ℕ) → position (λ byte. not (is_blank byte)) line ≡ None → lone_path (words_of line) ≡ None
-no_path line none = ap lone_path (no_word line none)
+pub no_path : (keyword line : List ℕ) → position (λ byte. not (is_blank byte)) line ≡ None → lone_path keyword (words_of line) ≡ Err (fault Cause.FewWords keyword)
+no_path keyword line none = ap (lone_path keyword) (no_word line none)

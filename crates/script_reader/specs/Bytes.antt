@@ -1,8 +1,5 @@
--- Requirements as the hexadecimal digits of their bytes.
-use Rattle.std.specs.Prelude.{ℕ, ◌+◌, ◌*◌, List, [], ◌∷◌, Option, Some, None, Result, Ok, Err}
-use Rattle.resource_reqs.specs.Resources.{Reqs}
-use Rattle.req_bytes.specs.Bytes.{reqs_in}
-use Rattle.req_bytes.specs.declared.error.BytesError.{BytesError}
+-- Bytes as hexadecimal digits.
+use Rattle.std.specs.Prelude.{ℕ, ◌+◌, ◌*◌, List, [], ◌∷◌, Option, Some, None}
 use Rattle.script_reader.specs.Numbers.{◌>>=◌, digit_of}
 
 -- the number below 256 that two hexadecimal digits spell
@@ -24,14 +21,3 @@ hex_bytes (high ∷ low ∷ text) = do
   byte ← hex_byte high low
   bytes ← hex_bytes text
   Some (byte ∷ bytes)
-
--- what the bytes say, if they say something
-abbrev pub said : Result Reqs BytesError → Option Reqs
-said (Ok reqs) = Some reqs
-said (Err e) = None
-
--- the requirements that the bytes of these digits say
-abbrev pub reqs_by_bytes : List ℕ → Option Reqs
-reqs_by_bytes text = do
-  bytes ← hex_bytes text
-  said (reqs_in bytes)

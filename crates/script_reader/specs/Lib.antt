@@ -3,6 +3,7 @@ pub mod Tables
 pub mod Words
 pub mod Numbers
 pub mod Bytes
+pub mod Causes
 pub mod Wants
 pub mod Lines
 pub mod Openings

@@ -84,3 +84,9 @@ abbrev pub range_in : Kind → List ℕ → Option (ℕ × ℕ)
 range_in kind text = do
   range ← range_of text
   only_if (has_number kind range.1) range
+
+-- how often a rule is used: 1 to 1,000,000 times
+abbrev pub uses_of : List ℕ → Option ℕ
+uses_of text = do
+  uses ← number_of text
+  only_if (nat_le 1 uses && nat_le uses 1000000) uses

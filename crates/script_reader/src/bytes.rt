@@ -1,10 +1,13 @@
 //! Requirements as the hexadecimal digits of their bytes.
 ghost use Rattle.std.specs.Prelude.{◌≡◌, IfOk};
 ghost use Rattle.std.specs.Option.{option_map};
-ghost use Rattle.script_reader.specs.Bytes.{hex_byte, hex_pair, hex_bytes, reqs_by_bytes};
+ghost use Rattle.script_reader.specs.Bytes.{hex_byte, hex_pair, hex_bytes};
 ghost use Rattle.script_reader.specs.Faults.{Gives};
+ghost use Rattle.script_reader.specs.Wants.{reqs_by_bytes};
 
-use crate::fault::LineError;
+use crate::cause::Cause;
+use crate::causes::bytes_cause;
+use crate::fault::{LineError, fault};
 use crate::numbers::digit_of;
 use req_bytes::{BytesError, decode};
 use resource_reqs::Reqs;
@@ -30,7 +33,7 @@ fn hex_pair(pair: &[u8]) -> Option<u8>
 }
 
 /// The bytes of hexadecimal digits, two for each; none where a digit is none, or has no partner. Cost: the digits.
-pub fn hex_bytes(alloc: Global, text: &[u8]) -> Result<Option<Vec<u8>>, AllocError>
+fn hex_bytes(alloc: Global, text: &[u8]) -> Result<Option<Vec<u8>>, AllocError>
     ensures { IfOk result (λ bytes. option_map (λ b. b.items) bytes ≡ hex_bytes text.now) }
 {
     let mut bytes = Vec::new(alloc);
@@ -51,15 +54,15 @@ pub fn hex_bytes(alloc: Global, text: &[u8]) -> Result<Option<Vec<u8>>, AllocErr
 }
 
 /// The requirements that the bytes of these digits say.
-pub fn reqs_by_bytes(alloc: Global, text: &[u8]) -> Result<Reqs, LineError>
+pub fn reqs_by_bytes<'a>(alloc: Global, text: &'a [u8]) -> Result<Reqs, LineError<'a>>
     ensures { Gives result (reqs_by_bytes text.now) }
 {
     let Some(bytes) = hex_bytes(alloc, text)? else {
-        return Err(LineError::Bad);
+        return Err(LineError::Bad(fault(Cause::NotHex, text)));
     };
     match decode(alloc, &bytes) {
         Ok(reqs) => Ok(reqs),
         Err(BytesError::WantOfMemory) => Err(LineError::WantOfMemory),
-        Err(_) => Err(LineError::Bad),
+        Err(error) => Err(LineError::Bad(fault(bytes_cause(error), text))),
     }
 }

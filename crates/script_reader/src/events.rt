@@ -1,46 +1,33 @@
-ghost use Rattle.std.specs.Prelude.{◌≡◌, ◌<◌, ◌≤◌, true, false, length, map, Err};
+//! What a line says: its keyword, and what the words behind it say.
+ghost use Rattle.std.specs.Prelude.{◌≡◌, true, false, map};
 ghost use Rattle.script_reader.specs.Faults.{Gives};
-ghost use Rattle.script_reader.specs.Openings.{GivesOpening, event_at, takes_one_path};
-ghost use Rattle.script_reader.specs.Lines.{event_of, event_by};
+ghost use Rattle.script_reader.specs.Openings.{GivesOpening};
+ghost use Rattle.script_reader.specs.Lines.{takes_one_path, event_at, read_by, read_line};
 ghost use Rattle.script_reader.specs.Words.{words_of};
 
-use crate::fault::LineError;
+use crate::cause::Cause;
+use crate::fault::{LineError, fault};
 use crate::lines::{
     change_of, complete_of, driver_of, lone_path, relate_of, reserve_of, teach_of, unwatch_of,
     watch_of, window_of,
 };
 use crate::plug::plug_of;
 use crate::tables::keyword_of;
-use crate::words::{next_word, write_words};
+use crate::words::{all_words, next_word, write_words};
 use device_ids::InstancePath;
 use pnp_labels::{Event, EventWord};
 use std::alloc::Global;
 
-/// The most words after a keyword: a device arrives with identifiers of both kinds and eight needs.
+/// The words for which there is room without memory: as many as an event can have after its keyword, since a device arrives with
+/// identifiers of both kinds and eight needs.
 const MOST_WORDS: usize = 13;
 
-/// What `read` gives of the words of a line. More of them than MOST_WORDS have no event.
-fn by_words<F: FnOnce(&[&[u8]]) -> Result<Event, LineError>>(
-    line: &[u8],
-    read: F,
-) -> Result<Event, LineError>
-    requires { F.IsAlwaysCallable read }
-    ensures few { length (words_of line.now) ≤ 13 → (words : _) × (map (λ w. w.now) words.now ≡ words_of line.now) × F.post read words result }
-    ensures many { 13 < length (words_of line.now) → result ≡ Err LineError.Bad }
-{
-    let mut words = [line; MOST_WORDS];
-    let Some(count) = write_words(line, &mut words) else {
-        return Err(LineError::Bad);
-    };
-    read(&words[..count])
-}
-
 /// Whether a keyword is followed by one path alone.
-fn takes_one_path(keyword: EventWord) -> bool
-    ensures { result ≡ takes_one_path keyword }
+fn takes_one_path(event: EventWord) -> bool
+    ensures { result ≡ takes_one_path event }
 {
     matches!(
-        keyword,
+        event,
         EventWord::Pull
             | EventWord::Disable
             | EventWord::Enable
@@ -54,8 +41,8 @@ fn takes_one_path(keyword: EventWord) -> bool
 pub enum Opening<'a> {
     /// A keyword that is followed by one path alone, and the path.
     At(EventWord, InstancePath),
-    /// Any other keyword, and what follows it.
-    By(EventWord, &'a [u8]),
+    /// Any other keyword, its word, and what follows it.
+    By(EventWord, &'a [u8], &'a [u8]),
 }
 
 /// The first word of a line, with the path where it is followed by one path alone. `recent` is the path of the last such line,
@@ -64,29 +51,29 @@ pub fn opening_of<'a>(
     alloc: Global,
     line: &'a [u8],
     recent: &mut Option<InstancePath>,
-) -> Result<Opening<'a>, LineError>
-    ensures { GivesOpening result (event_of (words_of line.now)) }
+) -> Result<Opening<'a>, LineError<'a>>
+    ensures { GivesOpening result (read_line (words_of line.now)) }
 {
-    let Some((word, rest)) = next_word(line) else {
-        return Err(LineError::Bad);
+    let Some((keyword, rest)) = next_word(line) else {
+        return Err(LineError::Bad(fault(Cause::FewWords, &[])));
     };
-    let Some(keyword) = keyword_of(word) else {
-        return Err(LineError::Bad);
+    let Some(event) = keyword_of(keyword) else {
+        return Err(LineError::Bad(fault(Cause::NotKeyword, keyword)));
     };
-    if takes_one_path(keyword) {
-        Ok(Opening::At(keyword, lone_path(alloc, rest, recent)?))
+    if takes_one_path(event) {
+        Ok(Opening::At(event, lone_path(alloc, keyword, rest, recent)?))
     } else {
-        Ok(Opening::By(keyword, rest))
+        Ok(Opening::By(event, keyword, rest))
     }
 }
 
 /// The event of a keyword that is followed by one path alone.
 #[inline(always)]
-pub fn event_at(keyword: EventWord, path: InstancePath) -> Event
-    requires { takes_one_path keyword ≡ true }
-    ensures { result ≡ event_at keyword path }
+pub fn event_at(event: EventWord, path: InstancePath) -> Event
+    requires { takes_one_path event ≡ true }
+    ensures { result ≡ event_at event path }
 {
-    match keyword {
+    match event {
         EventWord::Pull => Event::Pull { path },
         EventWord::Disable => Event::Disable { path },
         EventWord::Enable => Event::Enable { path },
@@ -96,22 +83,53 @@ pub fn event_at(keyword: EventWord, path: InstancePath) -> Event
     }
 }
 
-/// The event of what follows a keyword, where that is more than one path.
-pub fn event_by(alloc: Global, keyword: EventWord, line: &[u8]) -> Result<Event, LineError>
-    requires { takes_one_path keyword ≡ false }
-    ensures { Gives result (event_by keyword (words_of line.now)) }
+/// What any other keyword says of its words.
+fn read_words<'a>(
+    alloc: Global,
+    event: EventWord,
+    keyword: &'a [u8],
+    words: &[&'a [u8]],
+) -> Result<Event, LineError<'a>>
+    requires { takes_one_path event ≡ false }
+    ensures { Gives result (read_by event keyword.now (map (λ w. w.now) words.now)) }
 {
-    match keyword {
-        EventWord::Plug => by_words(line, |words| plug_of(alloc, words)),
-        EventWord::Name => by_words(line, |words| driver_of(alloc, words)),
-        EventWord::Teach => by_words(line, |words| teach_of(alloc, words)),
-        EventWord::Relate => by_words(line, |words| relate_of(alloc, words)),
-        EventWord::Reserve => by_words(line, reserve_of),
-        EventWord::Complete => by_words(line, |words| complete_of(alloc, words)),
-        EventWord::Window => by_words(line, |words| window_of(alloc, words)),
-        EventWord::Change => by_words(line, |words| change_of(alloc, words)),
-        EventWord::Watch => by_words(line, |words| watch_of(alloc, words)),
-        EventWord::Unwatch => by_words(line, |words| unwatch_of(alloc, words)),
-        _ => Err(LineError::Bad),
+    match event {
+        EventWord::Plug => plug_of(alloc, keyword, words),
+        EventWord::Name => driver_of(alloc, keyword, words),
+        EventWord::Teach => teach_of(alloc, keyword, words),
+        EventWord::Relate => relate_of(alloc, keyword, words),
+        EventWord::Reserve => reserve_of(keyword, words),
+        EventWord::Complete => complete_of(alloc, keyword, words),
+        EventWord::Window => window_of(alloc, keyword, words),
+        EventWord::Change => change_of(alloc, keyword, words),
+        EventWord::Watch => watch_of(alloc, keyword, words),
+        _ => unwatch_of(alloc, keyword, words),
+    }
+}
+
+/// What any other keyword says of what follows it.
+pub fn read_by<'a>(
+    alloc: Global,
+    event: EventWord,
+    keyword: &'a [u8],
+    line: &'a [u8],
+) -> Result<Event, LineError<'a>>
+    requires { takes_one_path event ≡ false }
+    ensures { Gives result (read_by event keyword.now (words_of line.now)) }
+{
+    let mut words = [line; MOST_WORDS];
+    match write_words(line, &mut words) {
+        Some(count) => read_words(alloc, event, keyword, &words[..count]),
+        None => read_words(alloc, event, keyword, &all_words(alloc, line)?),
+    }
+}
+
+/// What a line says, which is no comment; else why it says nothing, or want of memory. Cost: the length.
+pub fn read_line<'a>(alloc: Global, line: &'a [u8]) -> Result<Event, LineError<'a>>
+    ensures { Gives result (read_line (words_of line.now)) }
+{
+    match opening_of(alloc, line, &mut None)? {
+        Opening::At(event, path) => Ok(event_at(event, path)),
+        Opening::By(event, keyword, rest) => read_by(alloc, event, keyword, rest),
     }
 }

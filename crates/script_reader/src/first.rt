@@ -11,10 +11,10 @@ use crate::words::is_blank;
 use device_ids::split_once;
 
 /// The most bytes of a line before its LF.
-const LONGEST: usize = 4096;
+pub const LONGEST: usize = 4096;
 
 /// Whether a line has no event: it has no words, or its first word begins a comment. Cost: the blanks at its front.
-fn has_no_event(line: &[u8]) -> bool
+pub fn has_no_event(line: &[u8]) -> bool
     ensures nothing { result ≡ true → meaning_of (words_of line.now) ≡ nothing }
     ensures event { result ≡ false → meaning_of (words_of line.now) ≡ event_or_bad (event_of (words_of line.now)) }
 {

@@ -35,6 +35,8 @@
 #![tactic(auto)]
 
 mod bytes;
+mod cause;
+mod causes;
 mod error;
 mod events;
 mod fault;
@@ -45,6 +47,7 @@ mod needs;
 mod next;
 mod numbers;
 mod plug;
+mod pushes;
 mod reader;
 mod skip;
 mod step;
@@ -53,18 +56,13 @@ mod wants;
 mod whole;
 mod words;
 
-pub use bytes::hex_bytes;
-pub use first::without_return;
+pub use cause::Cause;
+pub use events::read_line;
+pub use fault::{LineError, LineFault};
+pub use first::{LONGEST, has_no_event, without_return};
 pub use line::{Line, Script, ScriptEnd};
-pub use lines::{has_windows, is_answerable, uses_of};
-pub use needs::{is_need, values};
 pub use next::Next;
-pub use numbers::{digit_of, number_of, range_in, range_of};
-pub use plug::is_attribute;
 pub use reader::Reader;
-pub use tables::{
-    agrees_of, answer_of, ask_of, driver_kind_of, keyword_of, kind_of, minor_of, ok_of, rel_kind_of,
-};
-pub use wants::{number_or_one, shared_of, tail_at, want_from};
+pub use tables::{answer_of, minor_of, ok_of};
 pub use whole::{pieces_do_not_matter, read_events, read_pieces};
-pub use words::{is_blank, is_name};
+pub use words::is_name;

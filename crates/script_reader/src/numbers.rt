@@ -1,11 +1,14 @@
 ghost use Rattle.std.specs.Prelude.{◌≡◌, ◌<◌, ◌≤◌, ◌⊎◌, ◌^◌, IfSome};
-ghost use Rattle.script_reader.specs.Numbers.{digit_of, numeral, number_of, range_of, has_number, range_in};
+ghost use Rattle.script_reader.specs.Numbers.{digit_of, numeral, number_of, range_of, has_number, range_in, uses_of};
 
 use device_ids::split_once;
 use resource_reqs::Kind;
 
 /// The greatest number of a bus.
 const LAST_BUS: u64 = 255;
+
+/// The greatest number of uses of a rule.
+const MOST_USES: u64 = 1_000_000;
 
 /// The value of a digit of the base.
 pub fn digit_of(byte: u8, base: u64) -> Option<u64>
@@ -85,4 +88,15 @@ pub fn range_in(kind: Kind, text: &[u8]) -> Option<(u64, u64)>
     } else {
         None
     }
+}
+
+/// The number of uses of a rule.
+pub fn uses_of(word: &[u8]) -> Option<u32>
+    ensures { result ≡ uses_of word.now }
+{
+    let uses = number_of(word)?;
+    if uses < 1 || uses > MOST_USES {
+        return None;
+    }
+    Some(uses as u32)
 }

@@ -1,16 +1,15 @@
-ghost use Rattle.std.specs.Prelude.{◌≡◌, ◌+◌, ◌<◌, ◌≤◌, ◌^◌, ◌++◌, [], length, drop, IfOk, OnOk, OnErr, IsErrOf, Ok, true, false, List, ℕ};
+ghost use Rattle.std.specs.Prelude.{◌≡◌, ◌+◌, ◌<◌, ◌≤◌, ◌^◌, ◌++◌, [], length, drop, IfOk, OnOk, OnErr, Ok, true, false, List, ℕ};
 ghost use Rattle.script_reader.specs.Reading.{HasRead, SkipsTo};
 ghost use Rattle.script_reader.specs.Script.{GivesEvent, IsStuck};
 ghost use Rattle.script_reader.specs.Answers.{Answers, given};
 ghost use Rattle.script_reader.specs.declared.line.Line.{Line};
+ghost use Rattle.pnp_labels.specs.declared.event.Event.{Event};
 
-use crate::events::{Opening, event_at, event_by, opening_of};
-use crate::fault::LineError;
+use crate::events::{Opening, event_at, opening_of, read_by};
 use crate::next::Next;
 use crate::skip::{Skipped, skip_lines};
 use crate::step::Step;
 use device_ids::{InstancePath, WantOfMemory};
-use pnp_labels::Event;
 use std::alloc::{AllocError, Global};
 use std::marker::Model;
 
@@ -167,34 +166,20 @@ impl Reader {
         self.line = self.passed;
     }
 
-    /// The answer to a line that was read, which has so many bytes and stands behind so many that have no event.
+    /// The answer to a line that gave no event, behind so many bytes and lines that have none: it is bad, or memory was wanting.
     #[inline(always)]
-    fn answer(
-        &mut self,
-        read: Result<Event, LineError>,
-        count: usize,
-        more: usize,
-        lines: u64,
-    ) -> Result<Next, WantOfMemory>
+    fn refuse(&mut self, is_bad: bool, count: usize, lines: u64) -> Result<Next, WantOfMemory>
         requires reach { SkipsTo self.old.finished self.old.rest count lines }
-        requires event { IfOk read (λ event. GivesEvent self.old.finished (drop count self.old.rest) more event) }
-        requires stuck { IsErrOf read LineError.Bad → IsStuck self.old.finished (drop count self.old.rest) }
-        requires open { self.old.bad ≡ false }
-        requires few { length self.old.rest < 2 ^ 63 }
+        requires stuck { is_bad ≡ true → IsStuck self.old.finished (drop count self.old.rest) }
         ensures answers { IfOk result (λ next. Answers next self.old self.new) }
         ensures reads { IfOk result (λ next. (all : List ℕ) (events : List Line)
             → HasRead all events self.old → HasRead all (events ++ given next self.new) self.new) }
         ensures err { OnErr result (self.new ≡ self.old) }
     {
-        match read {
-            Ok(event) => {
-                self.pass(count, more, lines);
-                Ok(Next::Event(event))
-            }
-            Err(fault) => match fault {
-                LineError::Bad => Ok(self.stop(count, lines)),
-                LineError::WantOfMemory => Err(AllocError),
-            },
+        if is_bad {
+            Ok(self.stop(count, lines))
+        } else {
+            Err(AllocError)
         }
     }
 
@@ -217,15 +202,26 @@ impl Reader {
         match step {
             Step::Read { count: more, text } => {
                 match opening_of(self.alloc, text, &mut self.recent) {
-                    Ok(Opening::At(keyword, path)) => {
+                    Ok(Opening::At(event, path)) => {
                         self.pass(count, more, lines);
-                        Ok(Next::Event(event_at(keyword, path)))
+                        Ok(Next::Event(event_at(event, path)))
                     }
-                    Ok(Opening::By(keyword, rest)) => {
-                        let read = event_by(self.alloc, keyword, rest);
-                        self.answer(read, count, more, lines)
+                    Ok(Opening::By(event, keyword, rest)) => {
+                        match read_by(self.alloc, event, keyword, rest) {
+                            Ok(event) => {
+                                self.pass(count, more, lines);
+                                Ok(Next::Event(event))
+                            }
+                            Err(error) => {
+                                let is_bad = error.is_bad();
+                                self.refuse(is_bad, count, lines)
+                            }
+                        }
                     }
-                    Err(fault) => self.answer(Err(fault), count, more, lines),
+                    Err(error) => {
+                        let is_bad = error.is_bad();
+                        self.refuse(is_bad, count, lines)
+                    }
                 }
             }
             Step::NeedMore => {

@@ -1,20 +1,26 @@
-ghost use Rattle.std.specs.Prelude.{◌≡◌, ◌<◌, ◌+◌, ◌^◌, length, map, IfOk};
+ghost use Rattle.std.specs.Prelude.{◌≡◌, ◌<◌, ◌≤◌, ◌+◌, ◌^◌, length, map, IfOk};
 ghost use Rattle.std.specs.Option.{option_map};
 ghost use Rattle.script_reader.specs.Faults.{Gives};
-ghost use Rattle.script_reader.specs.Wants.{tail_at, shared_of, number_or_one, want_from, sized_by, sized, spanned, counted, want_of, all_of, at_most, group_of, list_of, id_of, ids_of};
+ghost use Rattle.script_reader.specs.Wants.{tail_at, shared_of, number_or_one, range_at, size_at, want_from, sized_by, sized, counted, want_by, want_of, all_of, group_of, list_of, id_of, id_in, ids_of};
 
-use crate::fault::LineError;
+use crate::cause::Cause;
+use crate::causes::{range_cause, size_cause, tail_cause};
+use crate::fault::{LineError, fault};
 use crate::numbers::{number_of, range_in};
+use crate::pushes::{push_group, push_want};
 use crate::tables::kind_of;
-use device_ids::{DeviceId, IdList, cut, split_once};
+use device_ids::{DeviceId, IdError, IdList, cut, split_once};
 use resource_reqs::{AltList, Group, Kind, Want};
 use std::alloc::Global;
 
 /// The most identifiers of an attribute.
 const MOST_IDS: usize = 64;
 
+/// The most wants of a group, and groups of a list.
+const MOST_PARTS: usize = 16;
+
 /// The text without its tail, and the tail behind the first such byte.
-pub fn tail_at(text: &[u8], at: u8) -> (&[u8], Option<&[u8]>)
+fn tail_at(text: &[u8], at: u8) -> (&[u8], Option<&[u8]>)
     ensures { (result.0.now, option_map (λ x. x.now) result.1) ≡ tail_at at text.now }
 {
     match split_once(text, at) {
@@ -24,7 +30,7 @@ pub fn tail_at(text: &[u8], at: u8) -> (&[u8], Option<&[u8]>)
 }
 
 /// Whether the tail is the word for sharing; none where it is another.
-pub fn shared_of(tail: Option<&[u8]>) -> Option<bool>
+fn shared_of(tail: Option<&[u8]>) -> Option<bool>
     ensures { result ≡ shared_of (option_map (λ x. x.now) tail.entry) }
 {
     let Some(text) = tail else {
@@ -37,7 +43,7 @@ pub fn shared_of(tail: Option<&[u8]>) -> Option<bool>
 }
 
 /// The number that the tail is, and 1 where there is none.
-pub fn number_or_one(tail: Option<&[u8]>) -> Option<u64>
+fn number_or_one(tail: Option<&[u8]>) -> Option<u64>
     ensures { result ≡ number_or_one (option_map (λ x. x.now) tail.entry) }
 {
     match tail {
@@ -46,139 +52,179 @@ pub fn number_or_one(tail: Option<&[u8]>) -> Option<u64>
     }
 }
 
+/// The range that the text is; a fault names the whole word.
+pub fn range_at<'a>(whole: &'a [u8], kind: Kind, text: &[u8]) -> Result<(u64, u64), LineError<'a>>
+    ensures gives { Gives result (range_at whole.now kind text.now) }
+    ensures ordered { IfOk result (λ range. range.0 ≤ range.1) }
+{
+    match range_in(kind, text) {
+        Some(range) => Ok(range),
+        None => Err(LineError::Bad(fault(range_cause(text), whole))),
+    }
+}
+
+/// The length or the alignment that the tail is.
+fn size_at<'a>(whole: &'a [u8], tail: Option<&[u8]>) -> Result<u64, LineError<'a>>
+    ensures { Gives result (size_at whole.now (option_map (λ x. x.now) tail.entry)) }
+{
+    match number_or_one(tail) {
+        Some(number) => Ok(number),
+        None => Err(LineError::Bad(fault(tail_cause(tail), whole))),
+    }
+}
+
 /// The want of these numbers, if it is one.
-pub fn want_from(kind: Kind, range: (u64, u64), len: u64, align: u64, shared: bool) -> Option<Want>
-    ensures { result ≡ want_from kind range len align shared }
+fn want_from<'a>(
+    whole: &'a [u8],
+    kind: Kind,
+    range: (u64, u64),
+    len: u64,
+    align: u64,
+    shared: bool,
+) -> Result<Want, LineError<'a>>
+    ensures { Gives result (want_from whole.now kind range len align shared) }
 {
     match Want::make(kind, range.0, range.1, len, align, shared) {
-        Ok(want) => Some(want),
-        Err(_) => None,
+        Ok(want) => Ok(want),
+        Err(_) => Err(LineError::Bad(fault(size_cause(len, align), whole))),
     }
 }
 
 /// A want of a range and a length, with this alignment.
-fn sized_by(kind: Kind, text: &[u8], align: Option<&[u8]>, shared: bool) -> Option<Want>
-    ensures { result ≡ sized_by kind text.now (option_map (λ x. x.now) align.entry) shared }
+fn sized_by<'a>(
+    whole: &'a [u8],
+    kind: Kind,
+    text: &[u8],
+    align: Option<&[u8]>,
+    shared: bool,
+) -> Result<Want, LineError<'a>>
+    ensures { Gives result (sized_by whole.now kind text.now (option_map (λ x. x.now) align.entry) shared) }
 {
     let (range, len) = tail_at(text, b'/');
-    let range = range_in(kind, range)?;
-    let len = number_or_one(len)?;
-    let align = number_or_one(align)?;
-    want_from(kind, range, len, align, shared)
+    let range = range_at(whole, kind, range)?;
+    let len = size_at(whole, len)?;
+    let align = size_at(whole, align)?;
+    want_from(whole, kind, range, len, align, shared)
 }
 
 /// A want of ports or memory: a range, a length and an alignment.
-fn sized(kind: Kind, text: &[u8], shared: bool) -> Option<Want>
-    ensures { result ≡ sized kind text.now shared }
+fn sized<'a>(whole: &'a [u8], kind: Kind, text: &[u8], shared: bool) -> Result<Want, LineError<'a>>
+    ensures { Gives result (sized whole.now kind text.now shared) }
 {
     let (text, align) = tail_at(text, b'@');
-    sized_by(kind, text, align, shared)
-}
-
-/// A want of bus numbers: a range and a length.
-fn spanned(kind: Kind, text: &[u8], shared: bool) -> Option<Want>
-    ensures { result ≡ spanned kind text.now shared }
-{
-    sized_by(kind, text, None, shared)
+    sized_by(whole, kind, text, align, shared)
 }
 
 /// A want of an interrupt or a DMA channel: a range.
-fn counted(kind: Kind, text: &[u8], shared: bool) -> Option<Want>
-    ensures { result ≡ counted kind text.now shared }
+fn counted<'a>(
+    whole: &'a [u8],
+    kind: Kind,
+    text: &[u8],
+    shared: bool,
+) -> Result<Want, LineError<'a>>
+    ensures { Gives result (counted whole.now kind text.now shared) }
 {
-    let range = range_in(kind, text)?;
-    want_from(kind, range, 1, 1, shared)
+    let range = range_at(whole, kind, text)?;
+    want_from(whole, kind, range, 1, 1, shared)
 }
 
-/// The want that the text is.
-fn want_of(text: &[u8]) -> Option<Want>
-    ensures { result ≡ want_of text.now }
+/// The want of this kind; that of bus numbers has no alignment.
+fn want_by<'a>(
+    whole: &'a [u8],
+    kind: Kind,
+    text: &[u8],
+    shared: bool,
+) -> Result<Want, LineError<'a>>
+    ensures { Gives result (want_by whole.now kind text.now shared) }
 {
-    let (kind, form) = split_once(text, b':')?;
-    let kind = kind_of(kind)?;
-    let (form, share) = tail_at(form, b':');
-    let shared = shared_of(share)?;
     match kind {
-        Kind::Port => sized(Kind::Port, form, shared),
-        Kind::Irq => counted(Kind::Irq, form, shared),
-        Kind::Mem => sized(Kind::Mem, form, shared),
-        Kind::Dma => counted(Kind::Dma, form, shared),
-        Kind::Bus => spanned(Kind::Bus, form, shared),
+        Kind::Port => sized(whole, Kind::Port, text, shared),
+        Kind::Irq => counted(whole, Kind::Irq, text, shared),
+        Kind::Mem => sized(whole, Kind::Mem, text, shared),
+        Kind::Dma => counted(whole, Kind::Dma, text, shared),
+        Kind::Bus => sized_by(whole, Kind::Bus, text, None, shared),
     }
 }
 
-/// The group that the texts are.
-fn group_from(alloc: Global, parts: &[&[u8]]) -> Result<Group, LineError>
-    requires { 0 < length parts.now }
-    ensures gives { Gives result (at_most 16 (all_of want_of (map (λ x. x.now) parts.now))) }
-    ensures some { IfOk result (λ group. 0 < length group) }
+/// The want that the text is.
+fn want_of(text: &[u8]) -> Result<Want, LineError<'_>>
+    ensures { Gives result (want_of text.now) }
 {
+    let Some((kind, form)) = split_once(text, b':') else {
+        return Err(LineError::Bad(fault(Cause::NoKind, text)));
+    };
+    let Some(kind) = kind_of(kind) else {
+        return Err(LineError::Bad(fault(Cause::NotKind, text)));
+    };
+    let (form, share) = tail_at(form, b':');
+    let Some(shared) = shared_of(share) else {
+        return Err(LineError::Bad(fault(Cause::NotShared, text)));
+    };
+    want_by(text, kind, form, shared)
+}
+
+/// The group that the text is.
+fn group_of<'a>(alloc: Global, text: &'a [u8]) -> Result<Group, LineError<'a>>
+    ensures { Gives result (group_of text.now) }
+{
+    let parts = cut(alloc, text, b'|')?;
+    if parts.len() > MOST_PARTS {
+        return Err(LineError::Bad(fault(Cause::ManyWants, text)));
+    }
     let mut group = Group::new(alloc);
-    for part in parts {
-        let Some(want) = want_of(part) else {
-            return Err(LineError::Bad);
-        };
-        group.push(want)?;
+    for part in &parts {
+        push_want(&mut group, want_of(part)?)?;
     }
     Ok(group)
 }
 
-/// The group that the text is.
-fn group_of(alloc: Global, text: &[u8]) -> Result<Group, LineError>
-    ensures gives { Gives result (group_of text.now) }
-    ensures some { IfOk result (λ group. 0 < length group) }
+/// The alternative list that the text is.
+pub fn list_of<'a>(alloc: Global, text: &'a [u8]) -> Result<AltList, LineError<'a>>
+    ensures { Gives result (list_of text.now) }
 {
-    let parts = cut(alloc, text, b'|')?;
-    group_from(alloc, &parts)
-}
-
-/// The alternative list that the texts are.
-fn list_from(alloc: Global, parts: &[&[u8]]) -> Result<AltList, LineError>
-    requires { 0 < length parts.now }
-    ensures gives { Gives result (at_most 16 (all_of group_of (map (λ x. x.now) parts.now))) }
-    ensures some { IfOk result (λ list. 0 < length list) }
-{
+    let parts = cut(alloc, text, b';')?;
+    if parts.len() > MOST_PARTS {
+        return Err(LineError::Bad(fault(Cause::ManyGroups, text)));
+    }
     let mut list = AltList::new(alloc);
-    for part in parts {
-        list.push(group_of(alloc, part)?)?;
+    for part in &parts {
+        push_group(&mut list, group_of(alloc, part)?)?;
     }
     Ok(list)
 }
 
-/// The alternative list that the text is.
-pub fn list_of(alloc: Global, text: &[u8]) -> Result<AltList, LineError>
-    ensures gives { Gives result (list_of text.now) }
-    ensures some { IfOk result (λ list. 0 < length list) }
+/// The identifier that the text is.
+pub fn id_of<'a>(alloc: Global, text: &'a [u8]) -> Result<DeviceId, LineError<'a>>
+    ensures { Gives result (id_of text.now) }
 {
-    let parts = cut(alloc, text, b';')?;
-    list_from(alloc, &parts)
+    match DeviceId::read(alloc, text) {
+        Ok(id) => Ok(id),
+        Err(IdError::WantOfMemory) => Err(LineError::WantOfMemory),
+        Err(_) => Err(LineError::Bad(fault(Cause::NotId, text))),
+    }
 }
 
-/// The identifiers that the texts are.
-fn ids_from(alloc: Global, parts: &[&[u8]]) -> Result<IdList, LineError>
-    ensures { Gives result (at_most 64 (all_of id_of (map (λ x. x.now) parts.now))) }
+/// The identifier that the text of a list is; an empty one is told by the whole list.
+fn id_in<'a>(alloc: Global, whole: &'a [u8], text: &'a [u8]) -> Result<DeviceId, LineError<'a>>
+    ensures { Gives result (id_in whole.now text.now) }
 {
-    if parts.len() > MOST_IDS {
-        return Err(LineError::Bad);
+    if text.is_empty() {
+        return Err(LineError::Bad(fault(Cause::EmptyId, whole)));
     }
-    let mut ids = IdList::new(alloc);
-    for part in parts {
-        ids.push(id_of(alloc, part)?)?;
-    }
-    Ok(ids)
+    id_of(alloc, text)
 }
 
 /// The identifiers that the text is.
-pub fn ids_of(alloc: Global, text: &[u8]) -> Result<IdList, LineError>
+pub fn ids_of<'a>(alloc: Global, text: &'a [u8]) -> Result<IdList, LineError<'a>>
     ensures { Gives result (ids_of text.now) }
 {
     let parts = cut(alloc, text, b',')?;
-    ids_from(alloc, &parts)
-}
-
-/// The identifier that the text is.
-pub fn id_of(alloc: Global, text: &[u8]) -> Result<DeviceId, LineError>
-    ensures { Gives result (id_of text.now) }
-{
-    Ok(DeviceId::read(alloc, text)?)
+    if parts.len() > MOST_IDS {
+        return Err(LineError::Bad(fault(Cause::ManyIds, text)));
+    }
+    let mut ids = IdList::new(alloc);
+    for part in &parts {
+        ids.push(id_in(alloc, text, part)?)?;
+    }
+    Ok(ids)
 }

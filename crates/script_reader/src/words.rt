@@ -1,7 +1,9 @@
-ghost use Rattle.std.specs.Prelude.{◌≡◌, ◌<◌, ◌≤◌, ◌∷◌, [], length, map, not, take, IfSome, MatchOption};
+ghost use Rattle.std.specs.Prelude.{◌≡◌, ◌<◌, ◌≤◌, ◌∷◌, [], length, map, not, take, IfOk, IfSome, MatchOption};
 ghost use Rattle.std.specs.List.{list_all, position};
 ghost use Rattle.std.specs.Str.{bytes_eq};
 ghost use Rattle.script_reader.specs.Words.{is_blank, words_of, is_name, is_name_byte};
+
+use std::alloc::{AllocError, Global};
 
 /// The most bytes of a name.
 const LONGEST_NAME: usize = 64;
@@ -74,6 +76,15 @@ pub fn write_words<'a>(line: &'a [u8], words: &mut [&'a [u8]]) -> Option<usize>
         rest = more;
     }
     Some(count)
+}
+
+/// The words of a line, however many. Cost: the length.
+pub fn all_words(alloc: Global, line: &[u8]) -> Result<Vec<&[u8]>, AllocError>
+    ensures { IfOk result (λ v. map (λ w. w.now) v.items ≡ words_of line.now) }
+{
+    line.split(|byte| is_blank(*byte))
+        .filter(|part| !part.is_empty())
+        .collect(alloc)
 }
 
 /// Whether the byte is one of a name.

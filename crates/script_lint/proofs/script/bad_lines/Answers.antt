@@ -1,6 +1,6 @@
 use Rattle.std.proofs.Common.{arith, ap, length, length-append, ◌∷◌, map}
 use Rattle.std.specs.Option.{option_map}
-use Rattle.script_lint.specs.Faults.{seen}
+use Rattle.script_reader.specs.Faults.{seen}
 use Rattle.script_lint.specs.Script.{told}
 use Rattle.script_lint.proofs.Stops.{line_more}
 use Rattle.script_lint.proofs.script.bad_lines.Goals as goal

@@ -1,13 +1,12 @@
 use Rattle.std.proofs.Common.{ap, drop, refl, sym, subst, ◌∙◌}
 use Rattle.script_reader.specs.Openings.{LeadsTo}
-use Rattle.script_reader.specs.Lines.{event_of}
+use Rattle.script_reader.specs.Lines.{read_line}
 use Rattle.script_reader.specs.Script.{Waits, Ends}
 use Rattle.script_reader.specs.Words.{words_of}
+use Rattle.script_reader.specs.Faults.{Fails}
 use Rattle.script_reader.specs.declared.step.Step.TheVariants as steps
 use Rattle.script_reader.specs.declared.events.Opening.TheVariants as openings
-use Rattle.script_reader.specs.Faults.{Gives}
-use Rattle.script_reader.specs.Steps.{Reads}
-use Rattle.script_reader.proofs.Moving.{answer_over, answer_dropped, answer_stop, gives_at, gives_event, stop_moves, says_here, skips_from, stuck_from, over_here, is_stop}
+use Rattle.script_reader.proofs.Moving.{answer_over, answer_dropped, answer_stop, gives_at, gives_event, gives_none, stop_moves, says_here, skips_from, stuck_from, over_here, is_stop}
 use Rattle.script_reader.proofs.Feeding.{has_read_moves}
 use Rattle.script_reader.proofs.reader.Reader.next_event.Goals as goal
 
@@ -49,22 +48,25 @@ returns-in_default-clause-reads c = λ all events h. has_read_moves all events _
 
 pub returns-in-Ok-At-clause-answers : goal.returns-in-Ok-At-clause-answers
 returns-in-Ok-At-clause-answers c = rw (← c.self.view_is) (c.pass.ensures.answers c.event_at.result
-    (gives_at c.self.inside.finished (drop c.skip_lines-count.result.count (drop c.self.inside.at c.self.inside.bytes.items)) c.in-Read.more c.in-Read.text.now c.in-Ok-At.keyword c.in-Ok-At.path c.event_at.result
+    (gives_at c.self.inside.finished (drop c.skip_lines-count.result.count (drop c.self.inside.at c.self.inside.bytes.items)) c.in-Read.more c.in-Read.text.now c.in-Ok-At.event c.in-Ok-At.path c.event_at.result
     (says_here c.self.inside.bytes.items c.deref.result.now c.self.inside.at c.self.inside.finished c.skip_lines-count.result.count c.skip_lines-count.result.step (steps.Read c.in-Read.more c.in-Read.text) c.deref.ensures.value c.in-Read.is c.skip_lines-count.ensures.step)
-    (subst (λ f. LeadsTo f (event_of (words_of c.in-Read.text.now))) c.in-Ok-At.field-0-is c.in-Ok-At.ensures) c.event_at.ensures))
+    (subst (λ f. LeadsTo f (read_line (words_of c.in-Read.text.now))) c.in-Ok-At.field-0-is c.in-Ok-At.ensures) c.event_at.ensures))
 
-pub answer-requires-clause-event : goal.answer-requires-clause-event
-answer-requires-clause-event c =
-    let leads : LeadsTo (openings.By c.in-Ok-By.keyword c.in-Ok-By.rest) (event_of (words_of c.in-Read.text.now)) =
-    subst (λ f. LeadsTo f (event_of (words_of c.in-Read.text.now))) c.in-Ok-By.field-0-is c.in-Ok-By.ensures in
-    let gives : Gives c.event_by-read.result (event_of (words_of c.in-Read.text.now)) = subst (λ o. Gives c.event_by-read.result o) (sym leads.1) c.event_by-read.ensures in
-    gives_event c.self.inside.finished (drop c.skip_lines-count.result.count (drop c.self.inside.at c.self.inside.bytes.items)) c.in-Read.more c.in-Read.text.now c.event_by-read.result
-    (says_here c.self.inside.bytes.items c.deref.result.now c.self.inside.at c.self.inside.finished c.skip_lines-count.result.count c.skip_lines-count.result.step (steps.Read c.in-Read.more c.in-Read.text) c.deref.ensures.value c.in-Read.is c.skip_lines-count.ensures.step) gives
+pub returns-in-Ok-clause-answers : goal.returns-in-Ok-clause-answers
+returns-in-Ok-clause-answers c =
+    let leads : LeadsTo (openings.By c.in-Ok-By.event c.in-Ok-By.keyword c.in-Ok-By.rest) (read_line (words_of c.in-Read.text.now)) =
+    subst (λ f. LeadsTo f (read_line (words_of c.in-Read.text.now))) c.in-Ok-By.field-0-is c.in-Ok-By.ensures in
+    rw (← c.self.view_is) (c.pass-in-Ok.ensures.answers c.in-Ok.event
+    (gives_event c.self.inside.finished (drop c.skip_lines-count.result.count (drop c.self.inside.at c.self.inside.bytes.items)) c.in-Read.more c.in-Read.text.now c.in-Ok.event (says_here c.self.inside.bytes.items c.deref.result.now c.self.inside.at c.self.inside.finished c.skip_lines-count.result.count c.skip_lines-count.result.step (steps.Read c.in-Read.more c.in-Read.text) c.deref.ensures.value c.in-Read.is c.skip_lines-count.ensures.step) (leads.1 ∙ c.in-Ok.ensures)))
 
-pub answer-requires-clause-stuck : goal.answer-requires-clause-stuck
-answer-requires-clause-stuck c = λ bad.
-    let leads : LeadsTo (openings.By c.in-Ok-By.keyword c.in-Ok-By.rest) (event_of (words_of c.in-Read.text.now)) =
-    subst (λ f. LeadsTo f (event_of (words_of c.in-Read.text.now))) c.in-Ok-By.field-0-is c.in-Ok-By.ensures in
-    let gives : Gives c.event_by-read.result (event_of (words_of c.in-Read.text.now)) = subst (λ o. Gives c.event_by-read.result o) (sym leads.1) c.event_by-read.ensures in
-    let says : Reads c.self.inside.finished (drop c.skip_lines-count.result.count (drop c.self.inside.at c.self.inside.bytes.items)) c.in-Read.more c.in-Read.text.now = (says_here c.self.inside.bytes.items c.deref.result.now c.self.inside.at c.self.inside.finished c.skip_lines-count.result.count c.skip_lines-count.result.step (steps.Read c.in-Read.more c.in-Read.text) c.deref.ensures.value c.in-Read.is c.skip_lines-count.ensures.step) in
-    says.is_stuck (subst (λ r. Gives r (event_of (words_of c.in-Read.text.now))) bad gives)
+pub refuse-requires-clause-stuck : goal.refuse-requires-clause-stuck
+refuse-requires-clause-stuck c = λ bad.
+    let leads : LeadsTo (openings.By c.in-Ok-By.event c.in-Ok-By.keyword c.in-Ok-By.rest) (read_line (words_of c.in-Read.text.now)) =
+    subst (λ f. LeadsTo f (read_line (words_of c.in-Read.text.now))) c.in-Ok-By.field-0-is c.in-Ok-By.ensures in
+    gives_none c.self.inside.finished (drop c.skip_lines-count.result.count (drop c.self.inside.at c.self.inside.bytes.items)) c.in-Read.more c.in-Read.text.now c.in-Err-read_by.error (says_here c.self.inside.bytes.items c.deref.result.now c.self.inside.at c.self.inside.finished c.skip_lines-count.result.count c.skip_lines-count.result.step (steps.Read c.in-Read.more c.in-Read.text) c.deref.ensures.value c.in-Read.is c.skip_lines-count.ensures.step)
+    (subst (λ o. Fails c.in-Err-read_by.error o) (sym leads.1) c.in-Err-read_by.ensures) (sym c.is_bad-is_bad.ensures ∙ bad)
+
+pub refuse-requires-in-Err-clause-stuck : goal.refuse-requires-in-Err-clause-stuck
+refuse-requires-in-Err-clause-stuck c = λ bad.
+    gives_none c.self.inside.finished (drop c.skip_lines-count.result.count (drop c.self.inside.at c.self.inside.bytes.items)) c.in-Read.more c.in-Read.text.now c.in-Err.error (says_here c.self.inside.bytes.items c.deref.result.now c.self.inside.at c.self.inside.finished c.skip_lines-count.result.count c.skip_lines-count.result.step (steps.Read c.in-Read.more c.in-Read.text) c.deref.ensures.value c.in-Read.is c.skip_lines-count.ensures.step)
+    c.in-Err.ensures (sym c.is_bad-is_bad-in-Err.ensures ∙ bad)

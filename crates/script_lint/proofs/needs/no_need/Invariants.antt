@@ -1,7 +1,0 @@
-use Rattle.script_lint.specs.Lines.{need_fault}
-use Rattle.script_reader.proofs.Gathering.{now_of}
-use Rattle.script_lint.proofs.Looking.{Clean}
-use Rattle.script_lint.proofs.needs.no_need.Given as goal
-
-abbrev pub invariant-loop-word : goal.invariant-loop-word
-invariant-loop-word l = Clean need_fault (now_of l.words) l.word-index

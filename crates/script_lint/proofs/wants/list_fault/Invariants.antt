@@ -1,7 +1,0 @@
-use Rattle.script_lint.specs.Wants.{group_fault}
-use Rattle.script_reader.proofs.Gathering.{now_of}
-use Rattle.script_lint.proofs.Looking.{Clean}
-use Rattle.script_lint.proofs.wants.list_fault.Given as goal
-
-abbrev pub invariant-loop-part : goal.invariant-loop-part
-invariant-loop-part l = Clean group_fault (now_of l.part-items) l.part-index
