@@ -9,8 +9,8 @@ use Rattle.live_model.specs.Outputs.{Acts, Ended, Greets, Leads, LiveRun, Place,
 -- of what a live run says and hears this was said, and so it was heard, up to its end
 pub record HasLived (lives : Lives) (settings : Settings) (first : Stand) (ended : Ended) (past : Option Past) (taken : Option Text) : Type 0 where
   pub run : LiveRun lives settings first ended
-  pub past : run.last.told.past ≡ past
-  pub taken : run.last.told.taken ≡ taken
+  pub heard : run.last.told.past ≡ past
+  pub said : run.last.told.taken ≡ taken
 
 -- Of what was to be said a front was said; or all of it, and then a line was heard.
 pub data IsFront (t : Told) (past : Option Past) (taken : Option Text) : Type 0 where

@@ -149,7 +149,7 @@ pub data Goes (lives : Lives) (settings : Settings) : Place → Place → Type 0
   -- a live driver is asked
   asks : (s : Stand) (q : Query) → live_query lives s.state ≡ Some q → Goes lives settings (Acts s) (Asks (AsksStep q) (asking (query_words s.state q) s))
   -- and the step is made in which it answers so
-  answers : (s : Stand) (q : Query) (line : Text) (rest : Option Text) (reply : Reply) (label : Label) (new : State) → Hears s.told.answers Line line rest
+  answered : (s : Stand) (q : Query) (line : Text) (rest : Option Text) (reply : Reply) (label : Label) (new : State) → Hears s.told.answers Line line rest
       → reply_in s.told.asks (may_pend q.what) line ≡ Some reply → LiveSteps lives settings s.state (Some reply.answer) label new
       → Goes lives settings (Asks (AsksStep q) s)
       (behind_line lives label (labelled lives label new (saying (broke_lines s.told.asks (name_of s.state.core.rack q.driver) reply.tags) (hearing line rest s))))
@@ -232,5 +232,5 @@ lived s = give_all s.happened s.script
 -- what a live run writes for a script, and for the answers behind their first line; how it ends, and the script as it was lived
 pub record LiveOutput (lives : Lives) (settings : Settings) (kinds : List DriverKind) (script : Trace) (answers out : Text) (ended : Ended) (then_lived : Trace) : Type 0 where
   pub run : LiveRun lives settings (beginning (free_opening kinds) (untold answers) script) ended
-  pub out : run.last.told.taken ≡ Some out
-  pub lived : then_lived ≡ lived run.last
+  pub is : run.last.told.taken ≡ Some out
+  pub script_is : then_lived ≡ lived run.last

@@ -1,6 +1,3 @@
 pub mod Errors
 pub mod Views
-pub mod Talks
-pub mod Polls
-pub mod Probes
-pub mod Runs
+pub mod Steps
