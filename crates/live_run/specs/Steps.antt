@@ -23,7 +23,7 @@ pub record Replies (answers : Option Text) (line : Text) (rest : Option Text) (a
   pub hears : Hears answers Line line rest
   pub reply : Reply
   pub is : reply_in ask may_pend line ≡ Some reply
-  pub answer : answer ≡ reply.answer
+  pub says : answer ≡ reply.answer
 
 -- A live step was made: where no live driver is asked, by the books, and no answer was read; else by the answer that the next line says.
 pub data MakesStep (lives : Lives) (settings : Settings) (old : State) (label : Label) (new : State) (answers rest : Option Text) : Type 0 where

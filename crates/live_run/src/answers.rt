@@ -1,6 +1,8 @@
 //! The lines of the answers.
 ghost use Rattle.std.specs.Prelude.{◌≡◌, IfOk, map, option_map};
+ghost use Rattle.std.specs.List.{list_all};
 ghost use Rattle.std.specs.Str.{bytes_eq};
+ghost use Rattle.script_reader.specs.Words.{is_name};
 ghost use Rattle.live_model.specs.Answers.{are_tags, behind, is_taken, words_in};
 
 use device_ids::{WantOfMemory, cut};
@@ -42,11 +44,18 @@ pub(crate) fn words_of(
     behind(alloc, &words, own.as_bytes())
 }
 
+/// Whether each word is a name.
+fn are_names(words: &[&[u8]]) -> bool
+    ensures { result ≡ list_all (λ w. is_name w.now) words.now }
+{
+    words.iter().all(|word| is_name(word))
+}
+
 /// Whether each word has the form of a tag, which is that of a name.
 pub(crate) fn are_tags(words: &[&[u8]]) -> bool
     ensures { result ≡ are_tags (map (λ w. w.now) words.now) }
 {
-    words.iter().all(|word| is_name(word))
+    are_names(words)
 }
 
 /// Whether an answer may be given: AddDevice is not pended.
