@@ -125,7 +125,7 @@ refusers_hear settings rack entries s label t k w back run asked bad takes goes 
 
 -- The order of asking ---------------------------------------------------------------------------------------
 
-falls : (k : ℕ) (todo : List ℕ) → slice_get todo 0 ≡ Some k → Falling todo → (j : ℕ) → has (rest todo) j ≡ true → j < k
+pub falls : (k : ℕ) (todo : List ℕ) → slice_get todo 0 ≡ Some k → Falling todo → (j : ℕ) → has (rest todo) j ≡ true → j < k
 falls k [] at falling j h = absurd (cc)
 falls k (i ∷ is) at falling j h = let same : i ≡ k = cc in subst (λ (x : ℕ). j < x) same (falling.0 j h)
 

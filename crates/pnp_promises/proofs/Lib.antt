@@ -13,3 +13,12 @@ pub mod Hears
 pub mod World
 pub mod Later
 pub mod FinishOrder
+pub mod Searches
+pub mod TreeOrder
+pub mod Written
+pub mod StopOrder
+pub mod Ranks
+pub mod Alone
+pub mod AtRest
+pub mod Pended
+pub mod Named

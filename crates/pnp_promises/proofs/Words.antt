@@ -62,7 +62,7 @@ in_any p (y ∷ ys) x c e =
 
 module _ (c : Core) (order : Ascending 0 c.nodes) where
   -- who hangs on a device depends on it
-  edge_depends : (k j : ℕ) (m : Node) → node_at j c.nodes ≡ Some m → hangs_on c (k ∷ []) m ≡ true → DependsOn c k j
+  pub edge_depends : (k j : ℕ) (m : Node) → node_at j c.nodes ≡ Some m → hangs_on c (k ∷ []) m ≡ true → DependsOn c k j
   edge_depends k j m at h =
       let own = own_serial j m c.nodes at in
       subst (λ (i : ℕ). DependsOn c k i) own

@@ -1,16 +1,25 @@
 //! What holds of every run of the device machine, in a reader's words.
 
 ghost use Rattle.pnp_promises.specs.Accepted.{AcceptedIsDoneLaw};
+ghost use Rattle.pnp_promises.specs.Alone.{OperationsAreAloneLaw, OperationsBeginInTurnLaw};
 ghost use Rattle.pnp_promises.specs.Asks.{AsksAreInOrderLaw, EndsWhenAnsweredLaw};
+ghost use Rattle.pnp_promises.specs.AtRest.{AtRestWhoHasGoneIsHeldOpenLaw, WhoIsUpStandsOnWhatIsUpLaw};
 ghost use Rattle.pnp_promises.specs.Endings.{EndTellsWhatIsLaw};
 ghost use Rattle.pnp_promises.specs.FinishOrder.{FinishedFromTheGreatestLaw};
 ghost use Rattle.pnp_promises.specs.Hears.{RefusersHearLaw, AskedFromTheGreatestLaw};
 ghost use Rattle.pnp_promises.specs.Keeps.{RunningKeepsLaw, HandlesAreTheScriptsLaw, TasksAreInTurnLaw};
 ghost use Rattle.pnp_promises.specs.Later.{LaterIsNoEarlierLaw};
 ghost use Rattle.pnp_promises.specs.Lines.{LinesMeanWhatTheySayLaw};
+ghost use Rattle.pnp_promises.specs.Named.{OnlyTheNamedDeviceChangesLaw};
+ghost use Rattle.pnp_promises.specs.Pended.{WhatIsPendedWaitsLaw};
+ghost use Rattle.pnp_promises.specs.Ranks.{TheBestIsChosenLaw};
 ghost use Rattle.pnp_promises.specs.Refusals.{CausesAreExactLaw, RefusedChangesNothingLaw};
+ghost use Rattle.pnp_promises.specs.Searches.{SearchesKeepTheBudgetLaw};
+ghost use Rattle.pnp_promises.specs.StopOrder.{StoppedFromTheGreatestLaw};
+ghost use Rattle.pnp_promises.specs.TreeOrder.{TreeStandsLaw};
 ghost use Rattle.pnp_promises.specs.Words.{DependentsAreKnownLaw, PathsNameDevicesLaw};
 ghost use Rattle.pnp_promises.specs.World.{WorldStandsLaw};
+ghost use Rattle.pnp_promises.specs.Written.{ResourcesAreWrittenLaw};
 
 /// A refused event changes nothing.
 pub fn refused_changes_nothing()
@@ -108,4 +117,67 @@ pub fn later_is_no_earlier()
 /// In a finish the device that is taken is ready, and no ready device has a greater serial.
 pub fn finished_from_the_greatest()
     ensures { FinishedFromTheGreatestLaw }
+{}
+
+/// A search keeps its budget: where `assign`, `fits` or `nofit` is printed, at most so many prefixes as the budget says were to be
+/// tried for what was sought; where `spent` is printed, more.
+pub fn searches_keep_the_budget()
+    ensures { SearchesKeepTheBudgetLaw }
+{}
+
+/// Under `tree` each line stands below that of its parent, one level deeper, which is the last line before it that stands less deep; and
+/// the lines of the children of one device stand in order of serial.
+pub fn tree_stands()
+    ensures { TreeStandsLaw }
+{}
+
+/// Ports and memory are written in hexadecimal, interrupts, DMA channels and bus numbers in decimal: the kind, the first number, the
+/// last number, and whether they are shared.
+pub fn resources_are_written()
+    ensures { ResourcesAreWrittenLaw }
+{}
+
+/// Devices are stopped from the greatest serial down, so a child before its parent.
+pub fn stopped_from_the_greatest()
+    ensures { StoppedFromTheGreatestLaw }
+{}
+
+/// The best drivers are those of one match of the device's IDs with the INFs', and no match is better: none has a lesser number, and of
+/// those with the same number none is of a newer INF, a higher version, an INF that was named before, or an earlier line.
+pub fn the_best_is_chosen()
+    ensures { TheBestIsChosenLaw }
+{}
+
+/// An operation is alone: while one runs nothing is being started, no task is taken, no device joins or gets drivers, and no other
+/// operation begins.
+pub fn operations_are_alone()
+    ensures { OperationsAreAloneLaw }
+{}
+
+/// An operation begins in its turn: the first task is the one for it and its device.
+pub fn operations_begin_in_turn()
+    ensures { OperationsBeginInTurnLaw }
+{}
+
+/// Where no operation runs, the device above one that is Started is Started; or it would not start again after it was stopped, and is
+/// due to go with all below it.
+pub fn who_is_up_stands_on_what_is_up()
+    ensures { WhoIsUpStandsOnWhatIsUpLaw }
+{}
+
+/// At rest, with nothing under way, nobody is Stopped, and who has gone and is still there is held open: a handle is open to it, or to
+/// one that depends on it.
+pub fn at_rest_who_has_gone_is_held_open()
+    ensures { AtRestWhoHasGoneIsHeldOpenLaw }
+{}
+
+/// A request that a driver left unanswered waits until it is completed: each other event and each step leaves it waiting.
+pub fn what_is_pended_waits()
+    ensures { WhatIsPendedWaitsLaw }
+{}
+
+/// A line changes the device that it names, and no other; but with `commit` places change. A problem is set by a line that tells it, and
+/// is cleared where drivers are chosen anew.
+pub fn only_the_named_device_changes()
+    ensures { OnlyTheNamedDeviceChangesLaw }
 {}
