@@ -90,6 +90,7 @@ impl Machine for ProgramMachine {
 
     ghost events = { λ m. m.run.events };
 
+    #[tactic(auto, using(crate::proofs::Asking::nobody, crate::proofs::Asking::unnamed, crate::proofs::Asking::another, crate::proofs::Asking::somebody))]
     fn live_ask(&self, alloc: Global, live: &LiveDrivers) -> Result<Option<LiveAsk>, WantOfMemory> {
         let Some(query) = self.run.query() else {
             return Ok(None);
