@@ -1,10 +1,14 @@
 -- The same device gets the same drivers.
-use Rattle.std.proofs.Common.{ℕ, ◌<◌, ◌≡◌, ◌==◌, ◌⊎◌, inl, inr, Bool, true, false, List, [], ◌∷◌, ◌++◌, Option, Some, None, refl, sym, ap, ap₂, ◌∙◌, subst, arith, if◌then◌else◌}
+use Rattle.std.proofs.Common.{ℕ, ◌<◌, ◌≡◌, ◌==◌, ◌⊎◌, inl, inr, Bool, true, false, List, [], ◌∷◌, ◌++◌, get_or, Option, Some, None, refl, sym, ap, ap₂, ◌∙◌, subst, arith, if◌then◌else◌}
 use Rattle.std.proofs.lemmas.Bool.Decides.{nat_tests}
+use Rattle.std.proofs.lemmas.List.Quantifiers.{position-Some}
+use Rattle.std.proofs.lemmas.Option.{slice_get-get_or}
+use Rattle.std.proofs.lemmas.Slice.Eq.{bytes_eq-Decides}
+use Rattle.device_ids.specs.Folding.{folded, same}
 use Rattle.pnp_labels.specs.Texts.{Text}
 use Rattle.pnp_labels.specs.declared.event.Event.{Event}
 use Rattle.pnp_labels.specs.declared.label.Label.{Label}
-use Rattle.pnp_model.specs.Books.{driver_named, name_of, printed_name}
+use Rattle.pnp_model.specs.Books.{driver_named, is_named, name_is, name_of, name_or_none, printed_name}
 use Rattle.pnp_model.specs.Cores.{node_at}
 use Rattle.pnp_model.specs.Laws.{Reaches}
 use Rattle.pnp_model.specs.Records.{Choice, Device, Driver, Node, Settings, State}
@@ -27,7 +31,7 @@ use Rattle.pnp_laws.proofs.Runs.{root_is}
 use Rattle.pnp_laws.proofs.RunsStand.{reaches_kept}
 use Rattle.pnp_promises.specs.Lines.{Installed}
 use Rattle.pnp_promises.proofs.Lines.{lines_mean_what_they_say}
-use Rattle.pnp_pairs.specs.SameDrivers.{Adds, IdsStayLaw, Installs, SameDeviceSameDriversLaw, SameIdsSameDriversLaw}
+use Rattle.pnp_pairs.specs.SameDrivers.{Adds, ChoiceHangsOnIdsLaw, IdsStayLaw, Installs, SameDeviceSameDriversLaw, SameIdsSameDriversLaw}
 use Rattle.pnp_pairs.proofs.Places.{Finds, finds_run, numbered_still}
 
 -- What is installed ---------------------------------------------------------------------------------------
@@ -71,6 +75,33 @@ same_ids_same_drivers settings rack earlier between s s_after t t_after n m rank
     one_choice settings rack s t s_after t_after n m rank again driver name (finds_run settings s (Did (Label.Install n.path rank driver) ∷ between) t through) (installed settings rack earlier s n rank driver s_after run first)
     (installed settings rack (earlier ++ Did (Label.Install n.path rank driver) ∷ between) t m again name t_after (run_on settings _ s t earlier (Did (Label.Install n.path rank driver) ∷ between) run through) second)
     hw compat
+
+-- the driver that a name finds has that name, but for its letters
+found_letters : (service : Text) (rack : List Driver) (k : ℕ) → driver_named service rack ≡ Some k → same (name_of rack k) service ≡ true
+found_letters service [] k at = absurd (cc)
+found_letters service (x ∷ xs) k at =
+    let found = position-Some (is_named service) (x ∷ xs) k x at in
+    subst (λ (o : Option Driver). same (printed_name (name_or_none o)) service ≡ true) (sym (slice_get-get_or (x ∷ xs) k x found.0)) (by_name (get_or (x ∷ xs) k x).name found.1)
+  where
+    by_name : (o : Option Text) → name_is service o ≡ true → same (printed_name o) service ≡ true
+    by_name None e = absurd (cc)
+    by_name (Some own) e = e
+
+-- two names that are a third but for their letters are one but for their letters
+same_letters : (a b c : Text) → same a c ≡ true → same b c ≡ true → same a b ≡ true
+same_letters a b c h g = (bytes_eq-Decides (folded a) (folded b)).1 ((bytes_eq-Decides (folded a) (folded c)).0 h ∙ sym ((bytes_eq-Decides (folded b) (folded c)).0 g))
+
+pub choice_hangs_on_ids : ChoiceHangsOnIdsLaw
+choice_hangs_on_ids settings rack other one two s s_after t t_after n m rank again driver name run first over second hw compat =
+    let a = installed settings rack one s n rank driver s_after run first in
+    let b = installed settings other two t m again name t_after over second in
+    let choice : b.choice ≡ a.choice = some_same (settings.best m.hw m.compat) b.choice a.choice b.best (ap₂ settings.best hw compat ∙ a.best) in
+    let service : b.service ≡ a.service = some_same b.choice.service b.service a.service b.has_service (ap (λ (c : Choice). c.service) choice ∙ a.has_service) in
+    let his : same driver a.service ≡ true = subst (λ (x : Text). same x a.service ≡ true) (sym a.says) (found_letters a.service s.core.rack a.own a.own_is) in
+    let its : same name b.service ≡ true = subst (λ (x : Text). same x b.service ≡ true) (sym b.says) (found_letters b.service t.core.rack b.own b.own_is) in (
+      b.own_rank ∙ ap (λ (c : Choice). c.rank) choice ∙ sym a.own_rank,
+      same_letters name driver a.service (subst (λ (x : Text). same name x ≡ true) service its) his,
+    )
 
 -- The IDs of a device ---------------------------------------------------------------------------------------
 

@@ -1,5 +1,6 @@
 -- The same device gets the same drivers, whatever happens in between.
-use Rattle.std.specs.Prelude.{ℕ, ◌≡◌, List, Some}
+use Rattle.std.specs.Prelude.{ℕ, ◌≡◌, true, List, Some}
+use Rattle.device_ids.specs.Folding.{same}
 use Rattle.pnp_labels.specs.Texts.{Text}
 use Rattle.pnp_labels.specs.declared.label.Label.{Label}
 use Rattle.pnp_model.specs.Cores.{node_at}
@@ -43,3 +44,11 @@ SameDeviceSameDriversLaw =
     → Reaches settings rack earlier s → Installs settings s n rank driver s_after
     → Run settings s_after between t → Installs settings t m again name t_after → m.born ≡ n.born
     → (again ≡ rank) × (name ≡ driver) × ((drivers : List ℕ) × Adds s n drivers s_after × Adds t m drivers t_after)
+
+-- In two runs with the same INFs, whatever drivers there are and whatever happens in each: two `install` lines that are of devices with the same
+-- IDs tell the same rank and the same driver, but for its letters.
+abbrev pub ChoiceHangsOnIdsLaw : Type 0
+ChoiceHangsOnIdsLaw =
+    (settings : Settings) (rack other : List Driver) (one two : List Entry) (s s_after t t_after : State) (n m : Node) (rank again : ℕ) (driver name : Text)
+    → Reaches settings rack one s → Installs settings s n rank driver s_after → Reaches settings other two t → Installs settings t m again name t_after
+    → m.hw ≡ n.hw → m.compat ≡ n.compat → (again ≡ rank) × (same name driver ≡ true)

@@ -2,7 +2,7 @@
 
 ghost use Rattle.pnp_pairs.specs.OwnSets.{OperationsStayInTheirSetLaw};
 ghost use Rattle.pnp_pairs.specs.Renaming.{RenamingOnlyRenamesLaw, RenamedEndsAlikeLaw, RenamingRenamesLaw};
-ghost use Rattle.pnp_pairs.specs.SameDrivers.{IdsStayLaw, SameDeviceSameDriversLaw, SameIdsSameDriversLaw};
+ghost use Rattle.pnp_pairs.specs.SameDrivers.{ChoiceHangsOnIdsLaw, IdsStayLaw, SameDeviceSameDriversLaw, SameIdsSameDriversLaw};
 ghost use Rattle.pnp_pairs.specs.Struck.{StruckRunsDoTheRestLaw, RefusedLeavesNoTraceLaw};
 
 /// Renaming: where paths, identifiers and names of drivers are others, one to one, in what happens and in drivers and INFs, the machine
@@ -37,6 +37,12 @@ pub fn struck_runs_do_the_rest()
 /// drivers are added in the same order, whatever happened in between.
 pub fn same_ids_same_drivers()
     ensures { SameIdsSameDriversLaw }
+{}
+
+/// And in any two runs with the same INFs they tell the same rank and the same driver, but for its letters, whatever drivers there are and
+/// whatever happens in each.
+pub fn choice_hangs_on_ids()
+    ensures { ChoiceHangsOnIdsLaw }
 {}
 
 /// A device has one path and the same IDs for good, also where it left the tree and joined anew.
