@@ -1,0 +1,4 @@
+mod Twins
+mod Fronts
+mod Frees
+pub mod TwoRuns
