@@ -1,5 +1,5 @@
 -- Two runs over drivers of the same kinds and names: the same events and answers make the same entries.
-use Rattle.std.proofs.Common.{◌≡◌, Bool, true, false, List, [], ◌∷◌, ◌++◌, Option, Some, None, refl, sym, ap, ap₂, ◌∙◌, subst}
+use Rattle.std.proofs.Common.{◌≡◌, List, [], ◌∷◌, ◌++◌, Option, Some, refl, sym, ap, ap₂, ◌∙◌, subst}
 use Rattle.std.proofs.lemmas.List.{append_assoc}
 use Rattle.pnp_labels.specs.declared.event.Event.{Event}
 use Rattle.pnp_labels.specs.declared.label.Label.{Label}
@@ -9,13 +9,16 @@ use Rattle.pnp_model.specs.Machine.{IsQuiet, IsStep, Steps}
 use Rattle.pnp_model.specs.Records.{Doing, Driver, Settings, State, Step}
 use Rattle.pnp_model.specs.Runs.{Entry, Run}
 use Rattle.pnp_model.specs.Runs.Entry.{Happens, Did, Declines}
-use Rattle.free_model.specs.Asking.{is_ask}
+use Rattle.free_model.specs.Asks.{next_query}
 use Rattle.free_model.specs.Frees.{with_rack}
 use Rattle.free_model.specs.Shapes.{shapes}
 use Rattle.free_model.proofs.Quiets.{quiet_same}
+use Rattle.free_model.proofs.SameQueries.{query_same}
 use Rattle.free_model.proofs.TwinEvents.{twin_happens}
+use Rattle.free_pairs.specs.Alike.{GoesBeyond, more_happened, more_answered, rests, asks}
 use Rattle.free_pairs.specs.Answers.{NoneDeclined, answer, answers, happened}
-use Rattle.free_pairs.proofs.Twins.{Twins, asks_tell, kin_asks, kin_same, twins_of, way_of}
+use Rattle.free_pairs.proofs.Asked.{asks_tell, no_more, tells_ask, tells_is_ask}
+use Rattle.free_pairs.proofs.Twins.{Twins, kin_same, twins_of, way_of}
 
 module _ (settings : Settings) where
   -- where nothing is next, no step is
@@ -43,62 +46,40 @@ module _ (settings : Settings) where
         shown = twin.state.shape ∙ ap (λ (z : Step). shapes z.state.core.rack) first;
       })
 
-  -- The front of a run that has come to rest
-  pub front_of : (s : State) (r : List Driver) (one two : List Entry) (x y : State) (more : List Event) (told : List Shown) → shapes r ≡ shapes s.core.rack → Run settings s one x → Run settings (with_rack r s) two y → NoneDeclined one → NoneDeclined two → IsQuiet settings y
-      → happened two ≡ happened one ++ more → answers two ≡ answers one ++ told → (rest : List Entry) × (two ≡ one ++ rest)
-  front_of s r [] two x y more told e run other none free quiet h g = (two, refl)
-  front_of s r (Did a ∷ xs) [] x y more told e (mid, goes, run) other none free quiet h g = absurd (own_still s r a mid (subst (IsQuiet settings) other quiet) goes)
-  front_of s r (Happens event a ∷ xs) [] x y more told e run other none free quiet h g = absurd (let f : [] ≡ event ∷ (happened xs ++ more) = h in cc)
-  front_of s r (Declines a ∷ xs) two x y more told e run other none free quiet h g = absurd none
-  front_of s r (Did a ∷ xs) (Did b ∷ ys) x y more told e (mid, goes, run) (mid2, goes2, run2) none free quiet h g =
+  -- a run that goes beyond does not end where the other does a step
+  no_end : (s : State) (r : List Driver) (a : Label) (mid y : State) (xs : List Entry) (more : List Event) (told : List Shown) → GoesBeyond settings y more told → y ≡ with_rack r s → Steps settings s a mid
+      → [] ≡ happened xs ++ more → [] ≡ (answer a ++ answers xs) ++ told → ⊥
+  no_end s r a mid y xs more told (more_happened some) is goes h g = some (no_more (happened xs) more h)
+  no_end s r a mid y xs more told (more_answered some) is goes h g = some (no_more (answer a ++ answers xs) told g)
+  no_end s r a mid y xs more told (rests quiet) is goes h g = own_still s r a mid (subst (IsQuiet settings) is quiet) goes
+  no_end s r a mid y xs more told (asks q own) is goes h g =
+      let first : next_query s ≡ Some q = sym (query_same r s) ∙ ap next_query (sym is) ∙ own in
+      asks_tell a (answers xs ++ told) (tells_is_ask (tells_ask settings s a mid q goes first)) (sym (g ∙ append_assoc (answer a) (answers xs) told))
+
+  -- The front of a run that goes beyond
+  pub front_of : (s : State) (r : List Driver) (one two : List Entry) (x y : State) (more : List Event) (told : List Shown) → shapes r ≡ shapes s.core.rack → Run settings s one x → Run settings (with_rack r s) two y → NoneDeclined one → NoneDeclined two
+      → happened two ≡ happened one ++ more → answers two ≡ answers one ++ told → GoesBeyond settings y more told → (rest : List Entry) × (two ≡ one ++ rest)
+  front_of s r [] two x y more told e run other none free h g beyond = (two, refl)
+  front_of s r (Did a ∷ xs) [] x y more told e (mid, goes, run) other none free h g beyond = absurd (no_end s r a mid y xs more told beyond other goes h g)
+  front_of s r (Happens event a ∷ xs) [] x y more told e run other none free h g beyond = absurd (let f : [] ≡ event ∷ (happened xs ++ more) = h in cc)
+  front_of s r (Declines a ∷ xs) two x y more told e run other none free h g beyond = absurd none
+  front_of s r (Did a ∷ xs) (Did b ∷ ys) x y more told e (mid, goes, run) (mid2, goes2, run2) none free h g beyond =
       let way = way_of settings s r a b mid mid2 e goes goes2 in
       let same = kin_same way.kin (answers xs ++ told) (answers ys) (g ∙ append_assoc (answer a) (answers xs) told) in
       let twins = twins_of settings s r a b mid mid2 e goes goes2 same.0 in
-      let rest = front_of mid twins.rack xs ys x y more told twins.shown run (subst (λ (z : State). Run settings z ys y) twins.is run2) none free quiet h same.1 in
+      let rest = front_of mid twins.rack xs ys x y more told twins.shown run (subst (λ (z : State). Run settings z ys y) twins.is run2) none free h same.1 beyond in
       (rest.0, ap₂ (λ (l : Label) (zs : List Entry). Did l ∷ zs) (sym same.0) rest.1)
-  front_of s r (Happens event a ∷ xs) (Happens other b ∷ ys) x y more told e (mid, goes, run) (mid2, goes2, run2) none free quiet h g =
+  front_of s r (Happens event a ∷ xs) (Happens other b ∷ ys) x y more told e (mid, goes, run) (mid2, goes2, run2) none free h g beyond =
       let f : other ∷ happened ys ≡ event ∷ (happened xs ++ more) = h in
       let own : other ≡ event = cc in
       let left : happened ys ≡ happened xs ++ more = cc in
       let same = event_twins s r event other a b mid mid2 e own goes.1 goes2.1 in
-      let rest = front_of mid same.1.rack xs ys x y more told same.1.shown run (subst (λ (z : State). Run settings z ys y) same.1.is run2) none free quiet left g in
+      let rest = front_of mid same.1.rack xs ys x y more told same.1.shown run (subst (λ (z : State). Run settings z ys y) same.1.is run2) none free left g beyond in
       (rest.0, ap₂ (λ (k : Entry) (zs : List Entry). k ∷ zs) (ap₂ (λ (v : Event) (l : Label). Happens v l) own same.0) rest.1)
-  front_of s r (Did a ∷ xs) (Happens event b ∷ ys) x y more told e (mid, goes, run) (mid2, goes2, run2) none free quiet h g = absurd (own_still s r a mid goes2.0 goes)
-  front_of s r (Happens event a ∷ xs) (Did b ∷ ys) x y more told e (mid, goes, run) (mid2, goes2, run2) none free quiet h g = absurd (other_still s r b mid2 goes.0 goes2)
-  front_of s r (Did a ∷ xs) (Declines b ∷ ys) x y more told e run other none free quiet h g = absurd free
-  front_of s r (Happens event a ∷ xs) (Declines b ∷ ys) x y more told e run other none free quiet h g = absurd free
-
-  -- Two runs that both ask next
-  pub asks_next : (s : State) (r : List Driver) (one two : List Entry) (x y u v : State) (a b : Label) → shapes r ≡ shapes s.core.rack → Run settings s one x → Run settings (with_rack r s) two y → NoneDeclined one → NoneDeclined two
-      → happened two ≡ happened one → answers two ≡ answers one → Steps settings x a u → Steps settings y b v → is_ask a ≡ true → is_ask b ≡ true → two ≡ one
-  asks_next s r [] [] x y u v a b e run other none free h g steps steps2 ask ask2 = refl
-  asks_next s r [] (Did l ∷ ys) x y u v a b e run (mid, goes, other) none free h g steps steps2 ask ask2 =
-      let way = way_of settings s r a l u mid e (subst (λ (z : State). Steps settings z a u) run steps) goes in
-      absurd (asks_tell l (answers ys) (kin_asks way.kin ∙ ask) g)
-  asks_next s r [] (Happens event l ∷ ys) x y u v a b e run other none free h g steps steps2 ask ask2 = absurd (let f : event ∷ happened ys ≡ [] = h in cc)
-  asks_next s r [] (Declines l ∷ ys) x y u v a b e run other none free h g steps steps2 ask ask2 = absurd free
-  asks_next s r (Did l ∷ xs) [] x y u v a b e (mid, goes, run) other none free h g steps steps2 ask ask2 =
-      let way = way_of settings s r l b mid v e goes (subst (λ (z : State). Steps settings z b v) other steps2) in
-      absurd (asks_tell l (answers xs) (sym (kin_asks way.kin) ∙ ask2) (sym g))
-  asks_next s r (Happens event l ∷ xs) [] x y u v a b e run other none free h g steps steps2 ask ask2 = absurd (let f : [] ≡ event ∷ happened xs = h in cc)
-  asks_next s r (Declines l ∷ xs) two x y u v a b e run other none free h g steps steps2 ask ask2 = absurd none
-  asks_next s r (Did l ∷ xs) (Did k ∷ ys) x y u v a b e (mid, goes, run) (mid2, goes2, run2) none free h g steps steps2 ask ask2 =
-      let way = way_of settings s r l k mid mid2 e goes goes2 in
-      let same = kin_same way.kin (answers xs) (answers ys) g in
-      let twins = twins_of settings s r l k mid mid2 e goes goes2 same.0 in
-      ap₂ (λ (z : Label) (zs : List Entry). Did z ∷ zs) (sym same.0)
-      (asks_next mid twins.rack xs ys x y u v a b twins.shown run (subst (λ (z : State). Run settings z ys y) twins.is run2) none free h same.1 steps steps2 ask ask2)
-  asks_next s r (Happens event l ∷ xs) (Happens other k ∷ ys) x y u v a b e (mid, goes, run) (mid2, goes2, run2) none free h g steps steps2 ask ask2 =
-      let f : other ∷ happened ys ≡ event ∷ happened xs = h in
-      let own : other ≡ event = cc in
-      let left : happened ys ≡ happened xs = cc in
-      let same = event_twins s r event other l k mid mid2 e own goes.1 goes2.1 in
-      ap₂ (λ (z : Entry) (zs : List Entry). z ∷ zs) (ap₂ (λ (w : Event) (z : Label). Happens w z) own same.0)
-      (asks_next mid same.1.rack xs ys x y u v a b same.1.shown run (subst (λ (z : State). Run settings z ys y) same.1.is run2) none free left g steps steps2 ask ask2)
-  asks_next s r (Did l ∷ xs) (Happens event k ∷ ys) x y u v a b e (mid, goes, run) (mid2, goes2, run2) none free h g steps steps2 ask ask2 = absurd (own_still s r l mid goes2.0 goes)
-  asks_next s r (Happens event l ∷ xs) (Did k ∷ ys) x y u v a b e (mid, goes, run) (mid2, goes2, run2) none free h g steps steps2 ask ask2 = absurd (other_still s r k mid2 goes.0 goes2)
-  asks_next s r (Did l ∷ xs) (Declines k ∷ ys) x y u v a b e run other none free h g steps steps2 ask ask2 = absurd free
-  asks_next s r (Happens event l ∷ xs) (Declines k ∷ ys) x y u v a b e run other none free h g steps steps2 ask ask2 = absurd free
+  front_of s r (Did a ∷ xs) (Happens event b ∷ ys) x y more told e (mid, goes, run) (mid2, goes2, run2) none free h g beyond = absurd (own_still s r a mid goes2.0 goes)
+  front_of s r (Happens event a ∷ xs) (Did b ∷ ys) x y more told e (mid, goes, run) (mid2, goes2, run2) none free h g beyond = absurd (other_still s r b mid2 goes.0 goes2)
+  front_of s r (Did a ∷ xs) (Declines b ∷ ys) x y more told e run other none free h g beyond = absurd free
+  front_of s r (Happens event a ∷ xs) (Declines b ∷ ys) x y more told e run other none free h g beyond = absurd free
 
   -- The same entries
   pub same_end : (s : State) (r : List Driver) (entries : List Entry) (x y : State) → shapes r ≡ shapes s.core.rack → Run settings s entries x → Run settings (with_rack r s) entries y → NoneDeclined entries → Twins x y

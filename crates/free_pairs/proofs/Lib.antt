@@ -1,3 +1,4 @@
+mod Asked
 mod Twins
 mod Fronts
 mod Frees

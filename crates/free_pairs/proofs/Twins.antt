@@ -1,19 +1,17 @@
 -- Two steps of one state but for books: with the same answer they are one.
-use Rattle.std.proofs.Common.{◌≡◌, Bool, true, false, List, [], ◌∷◌, ◌++◌, Option, Some, None, refl, sym, ap, ◌∙◌, subst}
-use Rattle.std.proofs.lemmas.List.{append_assoc, append_cancel_left}
+use Rattle.std.proofs.Common.{◌≡◌, Bool, true, false, List, ◌∷◌, ◌++◌, Option, refl, sym, ap, ◌∙◌, subst}
+use Rattle.std.proofs.lemmas.List.{append_cancel_left}
 use Rattle.resource_reqs.proofs.Answering.{answer_one}
 use Rattle.pnp_labels.specs.declared.label.Label.{Label}
 use Rattle.pnp_labels.specs.declared.label.Shown.{Shown}
 use Rattle.pnp_labels.specs.declared.words.Answer.{Answer}
-use Rattle.pnp_labels.specs.declared.words.Answer.TheVariants.{Ok, Fail, Pend}
-use Rattle.pnp_model.specs.Books.{name_of}
-use Rattle.pnp_model.specs.Machine.{IsStep, Steps, next}
+use Rattle.pnp_model.specs.Machine.{IsStep, Steps}
 use Rattle.pnp_model.specs.Records.{Doing, Driver, Settings, State, Step}
 use Rattle.pnp_model.specs.Walks.{shown_of}
-use Rattle.free_model.specs.Asking.{AsksSo, answered, is_ask, said}
+use Rattle.free_model.specs.Asking.{said}
 use Rattle.free_model.specs.Asks.{Query, next_query}
 use Rattle.free_model.specs.Frees.{with_rack}
-use Rattle.free_model.specs.Shapes.{faces, shapes}
+use Rattle.free_model.specs.Shapes.{shapes}
 use Rattle.free_model.proofs.Alikes.{Alike, does, rests, searches}
 use Rattle.free_model.proofs.Outs.{shapes_by}
 use Rattle.free_model.proofs.Racks.{faces_of}
@@ -40,18 +38,6 @@ kin_same {p} {q} (adds path name) xs ys e =
     let f : added (said q) ∷ ys ≡ added (said p) ∷ xs = e in
     let head : added (said q) ≡ added (said p) = cc in
     (ap (Label.Add path name) (sym (added_one (said q) (said p) head)), cc)
-
--- one of them tells an ask where the other does
-pub kin_asks : {p q : Answer} {a b : Label} → KinLabel p q a b → is_ask b ≡ is_ask a
-kin_asks (one l) = refl
-kin_asks (asks minor path name) = refl
-kin_asks (adds path name) = refl
-
--- an ask tells an answer
-pub asks_tell : (l : Label) (rest : List Shown) → is_ask l ≡ true → answer l ++ rest ≡ [] → ⊥
-asks_tell (Label.Asked minor path name shown) rest e h = let f : shown ∷ rest ≡ [] = h in absurd (cc)
-asks_tell (Label.Add path name ok) rest e h = let f : added ok ∷ rest ≡ [] = h in absurd (cc)
-asks_tell _ rest e h = absurd (let f : false ≡ true = e in cc)
 
 -- Two steps -------------------------------------------------------------------------------
 

@@ -1,26 +1,29 @@
 -- The laws over two runs with the same answers.
-use Rattle.std.proofs.Common.{ℕ, ◌≡◌, Bool, true, false, List, Option, Some, None, refl, sym, ap, ◌∙◌, subst}
+use Rattle.std.proofs.Common.{◌≡◌, inl, inr, List, [], ◌∷◌, ◌++◌, Option, Some, None, refl, sym, ap, ◌∙◌, subst}
+use Rattle.std.proofs.lemmas.List.{append-nil}
 use Rattle.pnp_labels.specs.Texts.{Text}
 use Rattle.pnp_labels.specs.declared.label.Label.{Label}
-use Rattle.pnp_model.specs.Books.{name_of, rack_reply}
-use Rattle.pnp_model.specs.Machine.{Steps}
+use Rattle.pnp_model.specs.Books.{name_of}
 use Rattle.pnp_model.specs.Records.{Driver, Settings, State}
-use Rattle.pnp_model.specs.Runs.{opening}
-use Rattle.free_model.specs.Asking.{AsksSo, answered, is_ask}
+use Rattle.pnp_model.specs.Runs.{Entry, Run, opening}
+use Rattle.pnp_model.specs.Runs.Entry.{Happens, Did, Declines}
 use Rattle.free_model.specs.Asks.{Query, next_query}
-use Rattle.free_model.specs.Frees.{FreeSteps, free_opening, told, with_rack}
-use Rattle.free_model.specs.Shapes.{faces, shapes}
-use Rattle.free_model.proofs.AskSteps.{each_step_asks}
-use Rattle.free_model.proofs.Racks.{faces_of, faces_told, same_names}
+use Rattle.free_model.specs.Frees.{free_opening, with_rack}
+use Rattle.free_model.specs.Runs.{FreeRun}
+use Rattle.free_model.specs.Shapes.{shapes}
+use Rattle.free_model.proofs.AskSteps.{quiet_asks_nobody}
+use Rattle.free_model.proofs.Racks.{faces_of, same_names}
 use Rattle.free_model.proofs.SameQueries.{query_same}
-use Rattle.free_pairs.specs.Alike.{AreAlike, AsksAlike, FreeAnswersLaw, FreeNextLaw, NextAskLaw, SameAnswersLaw, SameLinesLaw}
+use Rattle.free_pairs.specs.Alike.{AreAlike, AsksAreAskedAgainLaw, FreeAnswersSameRunLaw, FreeAsksAreAskedAgainLaw, FreeLinesSameStateLaw, IsAskedAgain, SameAnswersSameRunLaw, SameLinesSameStateLaw, TellsAsk}
+use Rattle.free_pairs.specs.Answers.{NoneDeclined}
+use Rattle.free_pairs.proofs.Asked.{free_tells_ask, tells_ask}
 use Rattle.free_pairs.proofs.Frees as frees
-use Rattle.free_pairs.proofs.Fronts.{asks_next, front_of, same_end}
+use Rattle.free_pairs.proofs.Fronts.{front_of, same_end}
 use Rattle.free_pairs.proofs.Twins.{Twins}
 
-pub same_answers : SameAnswersLaw
-same_answers settings rack other one two s t more told e run other_run none free quiet h g =
-    front_of settings (opening rack) other one two s t more told e run other_run none free quiet h g
+pub same_answers_same_run : SameAnswersSameRunLaw
+same_answers_same_run settings rack other one two s t more told e run other_run none free h g beyond =
+    front_of settings (opening rack) other one two s t more told e run other_run none free h g beyond
 
 -- twins are alike
 alike_of : (s t : State) → Twins s t → AreAlike s t
@@ -28,62 +31,71 @@ alike_of s t twins =
     let own : t.core.rack ≡ twins.rack = ap (λ (x : State). x.core.rack) twins.is in
     record { is = twins.is ∙ ap (λ (r : List Driver). with_rack r s) (sym own); shown = ap shapes own ∙ twins.shown }
 
-pub same_lines : SameLinesLaw
-same_lines settings rack other entries s t e run other_run none = alike_of s t (same_end settings (opening rack) other entries s t e run other_run none)
+pub same_lines_same_state : SameLinesSameStateLaw
+same_lines_same_state settings rack other entries s t e run other_run none = alike_of s t (same_end settings (opening rack) other entries s t e run other_run none)
 
--- what a label tells of its ask
-pub record IsAsked (q : Query) (rack : List Driver) (label : Label) : Type 0 where
-  pub answer : Rattle.pnp_labels.specs.declared.words.Answer.Answer
-  pub says : label ≡ answered q.what q.path (name_of rack q.driver) answer
+-- What comes after the front ------------------------------------------------------------
 
-asked_by : (o : Option Query) (rack new : List Driver) (label : Label) → AsksSo o rack label new → is_ask label ≡ true → (q : Query) × (o ≡ Some q) × IsAsked q rack label
-asked_by None rack new label so ask = absurd (let f : is_ask label ≡ false = so.0 in cc)
-asked_by (Some q) rack new label so ask = (q, refl, record { answer = rack_reply q.what q.path rack q.driver; says = so.0 })
+-- a run of a front and a rest comes through a state between them
+through : (settings : Settings) (s : State) (one rest : List Entry) (t : State) → Run settings s (one ++ rest) t → (u : State) × Run settings s one u × Run settings u rest t
+through settings s [] rest t run = (s, refl, run)
+through settings s (entry ∷ one) rest t (mid, goes, run) =
+    let left = through settings mid one rest t run in
+    (left.0, (mid, goes, left.1), left.2)
 
-asked_in : (settings : Settings) (s : State) (label : Label) (new : State) → Steps settings s label new → is_ask label ≡ true → (q : Query) × (next_query s ≡ Some q) × IsAsked q s.core.rack label
-asked_in settings s label new steps ask = asked_by (next_query s) s.core.rack new.core.rack label (each_step_asks settings s label new steps) ask
+free_through : (settings : Settings) (s : State) (one rest : List Entry) (t : State) → FreeRun settings s (one ++ rest) t → (u : State) × FreeRun settings s one u × FreeRun settings u rest t
+free_through settings s [] rest t run = (s, refl, run)
+free_through settings s (entry ∷ one) rest t (mid, goes, run) =
+    let left = free_through settings mid one rest t run in
+    (left.0, (mid, goes, left.1), left.2)
 
-some_same : (q p : Query) → Some q ≡ Some p → q ≡ p
-some_same q p e = cc
+no_decline : (one : List Entry) (label : Label) (rest : List Entry) → NoneDeclined (one ++ Declines label ∷ rest) → ⊥
+no_decline [] label rest none = none
+no_decline (Happens event first ∷ one) label rest none = no_decline one label rest none
+no_decline (Did first ∷ one) label rest none = no_decline one label rest none
+no_decline (Declines first ∷ one) label rest none = none
 
--- one ask, by two drivers of one name
-both_asked : (q p : Query) (rack other : List Driver) (a b : Label) → p ≡ q → faces other ≡ faces rack → IsAsked q rack a → IsAsked p other b → AsksAlike q (name_of rack q.driver) a b
-both_asked q p rack other a b e shown first second =
-    let own : IsAsked q other b = subst (λ (x : Query). IsAsked x other b) e second in
-    record {
-      one = first.answer;
-      other = own.answer;
-      first = first.says;
-      second = own.says ∙ ap (λ (name : Text). answered q.what q.path name own.answer) (same_names other rack q.driver shown);
-    }
+-- somebody is to be asked, and nobody is
+some_none : (o : Option Query) (q : Query) → o ≡ Some q → o ≡ None → ⊥
+some_none o q e f = absurd (cc)
 
-pub next_ask : NextAskLaw
-next_ask settings rack other one two s t x y a b e run other_run none free h g steps steps2 ask ask2 =
-    let same : two ≡ one = asks_next settings (opening rack) other one two s t x y a b e run other_run none free h g steps steps2 ask ask2 in
-    let twins = same_end settings (opening rack) other one s t e run (subst (λ (zs : List _). Rattle.pnp_model.specs.Runs.Run settings (opening other) zs t) same other_run) none in
-    let alike = alike_of s t twins in
-    let first = asked_in settings s a x steps ask in
-    let second = asked_in settings t b y steps2 ask2 in
-    let query : next_query t ≡ next_query s = ap next_query twins.is ∙ query_same twins.rack s in
-    let both : second.0 ≡ first.0 = some_same second.0 first.0 (sym second.1 ∙ query ∙ first.1) in
-    (same, alike, (first.0, first.1, query ∙ first.1, both_asked first.0 second.0 s.core.rack t.core.rack a b both (faces_of t.core.rack s.core.rack alike.shown) first.2 second.2))
+asks_there : (settings : Settings) (q : Query) (name : Text) (one two rest : List Entry) (u t : State) → name_of u.core.rack q.driver ≡ name → next_query u ≡ Some q → NoneDeclined two
+    → two ≡ one ++ rest → Run settings u rest t → IsAskedAgain q name one two t
+asks_there settings q name one two [] u t named is free same run = inr (same ∙ append-nil one, ap next_query run ∙ is)
+asks_there settings q name one two (Did label ∷ rest) u t named is free same (mid, goes, run) =
+    inl (label, rest, same, subst (λ (word : Text). TellsAsk q word label) named (tells_ask settings u label mid q goes is))
+asks_there settings q name one two (Happens event label ∷ rest) u t named is free same (mid, goes, run) = absurd (some_none (next_query u) q is (quiet_asks_nobody settings u goes.0))
+asks_there settings q name one two (Declines label ∷ rest) u t named is free same run = absurd (no_decline one label rest (subst NoneDeclined same free))
 
-pub free_answers : FreeAnswersLaw
-free_answers settings kinds one two s t more told run other quiet h g = frees.front_of settings (free_opening kinds) one two s t more told run other quiet h g
+pub asks_are_asked_again : AsksAreAskedAgainLaw
+asks_are_asked_again settings rack other one two s t more told q e run other_run none free h g beyond is =
+    let front = front_of settings (opening rack) other one two s t more told e run other_run none free h g beyond in
+    let own = through settings (opening other) one front.0 t (subst (λ (zs : List Entry). Run settings (opening other) zs t) front.1 other_run) in
+    let alike = same_lines_same_state settings rack other one s own.0 e run own.1 none in
+    asks_there settings q (name_of s.core.rack q.driver) one two front.0 own.0 t
+    (same_names own.0.core.rack s.core.rack q.driver (faces_of own.0.core.rack s.core.rack alike.shown))
+    (ap next_query alike.is ∙ query_same own.0.core.rack s ∙ is) free front.1 own.2
 
-free_asked : (settings : Settings) (s : State) (label : Label) (new : State) → FreeSteps settings s label new → is_ask label ≡ true → (q : Query) × (next_query s ≡ Some q) × IsAsked q s.core.rack label
-free_asked settings s label new (answer, (mid, steps, e)) ask =
-    let by = asked_in settings (with_rack (told answer s.core.rack) s) label mid steps ask in
-    (by.0, sym (query_same (told answer s.core.rack) s) ∙ by.1,
-    record {
-      answer = by.2.answer;
-      says = by.2.says ∙ ap (λ (name : Text). answered by.0.what by.0.path name by.2.answer) (same_names (told answer s.core.rack) s.core.rack by.0.driver (faces_told answer s.core.rack));
-    })
+-- Whatever the drivers answer --------------------------------------------------------------
 
-pub free_next : FreeNextLaw
-free_next settings kinds one two s t x y a b run other h g steps steps2 ask ask2 =
-    let same = frees.asks_next settings (free_opening kinds) one two s t x y a b run other h g steps steps2 ask ask2 in
-    let first = free_asked settings s a x steps ask in
-    let second = free_asked settings t b y steps2 ask2 in
-    let both : second.0 ≡ first.0 = some_same second.0 first.0 (sym second.1 ∙ ap next_query same.1 ∙ first.1) in
-    (same.0, same.1, (first.0, first.1, both_asked first.0 second.0 s.core.rack t.core.rack a b both (ap (λ (z : State). faces z.core.rack) same.1) first.2 second.2))
+pub free_answers_same_run : FreeAnswersSameRunLaw
+free_answers_same_run settings kinds one two s t more told run other h g beyond = frees.front_of settings (free_opening kinds) one two s t more told run other h g beyond
+
+pub free_lines_same_state : FreeLinesSameStateLaw
+free_lines_same_state settings kinds entries s t run other = frees.same_end settings (free_opening kinds) entries s t run other
+
+free_asks_there : (settings : Settings) (q : Query) (name : Text) (one two rest : List Entry) (u t : State) → name_of u.core.rack q.driver ≡ name → next_query u ≡ Some q
+    → two ≡ one ++ rest → FreeRun settings u rest t → IsAskedAgain q name one two t
+free_asks_there settings q name one two [] u t named is same run = inr (same ∙ append-nil one, ap next_query run ∙ is)
+free_asks_there settings q name one two (Did label ∷ rest) u t named is same (mid, goes, run) =
+    inl (label, rest, same, subst (λ (word : Text). TellsAsk q word label) named (free_tells_ask settings u label mid q goes is))
+free_asks_there settings q name one two (Happens event label ∷ rest) u t named is same (mid, goes, run) = absurd (some_none (next_query u) q is (quiet_asks_nobody settings u goes.0))
+free_asks_there settings q name one two (Declines label ∷ rest) u t named is same (mid, goes, run) = absurd goes
+
+pub free_asks_are_asked_again : FreeAsksAreAskedAgainLaw
+free_asks_are_asked_again settings kinds one two s t more told q run other h g beyond is =
+    let front = frees.front_of settings (free_opening kinds) one two s t more told run other h g beyond in
+    let own = free_through settings (free_opening kinds) one front.0 t (subst (λ (zs : List Entry). FreeRun settings (free_opening kinds) zs t) front.1 other) in
+    let same : own.0 ≡ s = frees.same_end settings (free_opening kinds) one s own.0 run own.1 in
+    free_asks_there settings q (name_of s.core.rack q.driver) one two front.0 own.0 t
+    (ap (λ (z : State). name_of z.core.rack q.driver) same) (ap next_query same ∙ is) front.1 own.2

@@ -1,5 +1,5 @@
--- Two runs whose drivers give the same answers are one run, whatever else stands in the drivers' books.
-use Rattle.std.specs.Prelude.{◌≡◌, Bool, true, List, ◌++◌, Option, Some}
+-- Two runs whose drivers give the same answers are one run, whatever else stands in the drivers' books; so each ask comes again.
+use Rattle.std.specs.Prelude.{◌≡◌, ◌≢◌, ◌⊎◌, List, [], ◌∷◌, ◌++◌, Some}
 use Rattle.pnp_labels.specs.Texts.{Text}
 use Rattle.pnp_labels.specs.declared.event.Event.{Event}
 use Rattle.pnp_labels.specs.declared.label.Label.{Label}
@@ -8,12 +8,13 @@ use Rattle.pnp_labels.specs.declared.words.Answer.{Answer}
 use Rattle.pnp_labels.specs.declared.words.DriverKind.{DriverKind}
 use Rattle.pnp_model.specs.Books.{name_of}
 use Rattle.pnp_model.specs.Laws.{Reaches}
-use Rattle.pnp_model.specs.Machine.{IsQuiet, Steps}
+use Rattle.pnp_model.specs.Machine.{IsQuiet}
 use Rattle.pnp_model.specs.Records.{Driver, Settings, State}
 use Rattle.pnp_model.specs.Runs.{Entry}
-use Rattle.free_model.specs.Asking.{answered, is_ask}
+use Rattle.pnp_model.specs.Runs.Entry.{Did}
+use Rattle.free_model.specs.Asking.{answered}
 use Rattle.free_model.specs.Asks.{Query, next_query}
-use Rattle.free_model.specs.Frees.{FreeSteps, free_opening, with_rack}
+use Rattle.free_model.specs.Frees.{free_opening, with_rack}
 use Rattle.free_model.specs.Runs.{FreeRun}
 use Rattle.free_model.specs.Shapes.{shapes}
 use Rattle.free_pairs.specs.Answers.{NoneDeclined, answers, happened}
@@ -23,46 +24,65 @@ pub record AreAlike (s t : State) : Type 0 where
   pub is : t ≡ with_rack t.core.rack s
   pub shown : shapes t.core.rack ≡ shapes s.core.rack
 
--- both labels tell that this driver was asked this for this device; what it answered may differ
-pub record AsksAlike (q : Query) (name : Text) (a b : Label) : Type 0 where
-  pub one : Answer
-  pub other : Answer
-  pub first : a ≡ answered q.what q.path name one
-  pub second : b ≡ answered q.what q.path name other
+-- More came from outside than this: more happened, more was answered, or the machine waits for it, that is, it rests or a driver is to
+-- be asked next.
+pub data GoesBeyond (settings : Settings) (t : State) (more : List Event) (told : List Shown) : Type 0 where
+  more_happened : more ≢ [] → GoesBeyond settings t more told
+  more_answered : told ≢ [] → GoesBeyond settings t more told
+  rests : IsQuiet settings t → GoesBeyond settings t more told
+  asks : (q : Query) → next_query t ≡ Some q → GoesBeyond settings t more told
 
--- Over drivers of the same kinds and names: where what happened in one run and what was answered stand at the front of what happened and
--- was answered in another, which has come to rest, all that the one did and printed stands at the front of what the other did. And after
--- the same lines both are in one state but for the books.
-abbrev pub SameAnswersLaw : Type 0
-SameAnswersLaw =
+-- the label tells that the driver of this name was asked this for this device, and some answer
+pub record TellsAsk (q : Query) (name : Text) (label : Label) : Type 0 where
+  pub answer : Answer
+  pub is : label ≡ answered q.what q.path name answer
+
+-- the other run asked the same right after the same lines, or it stands there and asks it next
+abbrev pub IsAskedAgain : Query → Text → List Entry → List Entry → State → Type 0
+IsAskedAgain q name one two t =
+    ((label : Label) × (rest : List Entry) × (two ≡ one ++ Did label ∷ rest) × TellsAsk q name label) ⊎ ((two ≡ one) × (next_query t ≡ Some q))
+
+-- The laws over drivers of the same kinds and names, of which those that can be taught have as many rules --------
+
+-- Where what happened in one run and what was answered stand at the front of what happened and was answered in another, which goes beyond
+-- that, all that the one did and printed stands at the front of what the other did and printed.
+abbrev pub SameAnswersSameRunLaw : Type 0
+SameAnswersSameRunLaw =
     (settings : Settings) (rack other : List Driver) (one two : List Entry) (s t : State) (more : List Event) (told : List Shown)
-    → shapes other ≡ shapes rack → Reaches settings rack one s → Reaches settings other two t → NoneDeclined one → NoneDeclined two → IsQuiet settings t
-    → happened two ≡ happened one ++ more → answers two ≡ answers one ++ told → (rest : List Entry) × (two ≡ one ++ rest)
+    → shapes other ≡ shapes rack → Reaches settings rack one s → Reaches settings other two t → NoneDeclined one → NoneDeclined two
+    → happened two ≡ happened one ++ more → answers two ≡ answers one ++ told → GoesBeyond settings t more told → (rest : List Entry) × (two ≡ one ++ rest)
 
-abbrev pub SameLinesLaw : Type 0
-SameLinesLaw =
+-- After the same lines two runs are in one state but for the books.
+abbrev pub SameLinesSameStateLaw : Type 0
+SameLinesSameStateLaw =
     (settings : Settings) (rack other : List Driver) (entries : List Entry) (s t : State)
     → shapes other ≡ shapes rack → Reaches settings rack entries s → Reaches settings other entries t → NoneDeclined entries → AreAlike s t
 
--- Where the same happened and the same was answered so far, and each now asks a driver, they have printed the same, are in one state but
--- for the books, and ask the same driver the same for the same device.
-abbrev pub NextAskLaw : Type 0
-NextAskLaw =
-    (settings : Settings) (rack other : List Driver) (one two : List Entry) (s t x y : State) (a b : Label)
+-- Whom a run is to ask next, what, and for which device, is asked after the same lines in each run in which the same happened and was
+-- answered so far, and which goes beyond that.
+abbrev pub AsksAreAskedAgainLaw : Type 0
+AsksAreAskedAgainLaw =
+    (settings : Settings) (rack other : List Driver) (one two : List Entry) (s t : State) (more : List Event) (told : List Shown) (q : Query)
     → shapes other ≡ shapes rack → Reaches settings rack one s → Reaches settings other two t → NoneDeclined one → NoneDeclined two
-    → happened two ≡ happened one → answers two ≡ answers one → Steps settings s a x → Steps settings t b y → is_ask a ≡ true → is_ask b ≡ true
-    → (two ≡ one) × AreAlike s t × ((q : Query) × (next_query s ≡ Some q) × (next_query t ≡ Some q) × AsksAlike q (name_of s.core.rack q.driver) a b)
+    → happened two ≡ happened one ++ more → answers two ≡ answers one ++ told → GoesBeyond settings t more told
+    → next_query s ≡ Some q → IsAskedAgain q (name_of s.core.rack q.driver) one two t
 
--- The same of runs whatever the drivers answer: there the state is one, books and all.
-abbrev pub FreeAnswersLaw : Type 0
-FreeAnswersLaw =
+-- The same of runs whatever the drivers answer: there the state is one, books and all ----------------------------
+
+abbrev pub FreeAnswersSameRunLaw : Type 0
+FreeAnswersSameRunLaw =
     (settings : Settings) (kinds : List DriverKind) (one two : List Entry) (s t : State) (more : List Event) (told : List Shown)
-    → FreeRun settings (free_opening kinds) one s → FreeRun settings (free_opening kinds) two t → IsQuiet settings t
-    → happened two ≡ happened one ++ more → answers two ≡ answers one ++ told → (rest : List Entry) × (two ≡ one ++ rest)
-
-abbrev pub FreeNextLaw : Type 0
-FreeNextLaw =
-    (settings : Settings) (kinds : List DriverKind) (one two : List Entry) (s t x y : State) (a b : Label)
     → FreeRun settings (free_opening kinds) one s → FreeRun settings (free_opening kinds) two t
-    → happened two ≡ happened one → answers two ≡ answers one → FreeSteps settings s a x → FreeSteps settings t b y → is_ask a ≡ true → is_ask b ≡ true
-    → (two ≡ one) × (t ≡ s) × ((q : Query) × (next_query s ≡ Some q) × AsksAlike q (name_of s.core.rack q.driver) a b)
+    → happened two ≡ happened one ++ more → answers two ≡ answers one ++ told → GoesBeyond settings t more told → (rest : List Entry) × (two ≡ one ++ rest)
+
+abbrev pub FreeLinesSameStateLaw : Type 0
+FreeLinesSameStateLaw =
+    (settings : Settings) (kinds : List DriverKind) (entries : List Entry) (s t : State)
+    → FreeRun settings (free_opening kinds) entries s → FreeRun settings (free_opening kinds) entries t → t ≡ s
+
+abbrev pub FreeAsksAreAskedAgainLaw : Type 0
+FreeAsksAreAskedAgainLaw =
+    (settings : Settings) (kinds : List DriverKind) (one two : List Entry) (s t : State) (more : List Event) (told : List Shown) (q : Query)
+    → FreeRun settings (free_opening kinds) one s → FreeRun settings (free_opening kinds) two t
+    → happened two ≡ happened one ++ more → answers two ≡ answers one ++ told → GoesBeyond settings t more told
+    → next_query s ≡ Some q → IsAskedAgain q (name_of s.core.rack q.driver) one two t

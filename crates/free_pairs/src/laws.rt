@@ -1,31 +1,36 @@
 //! What holds of two runs whose drivers give the same answers.
 
-ghost use Rattle.free_pairs.specs.Alike.{FreeAnswersLaw, FreeNextLaw, NextAskLaw, SameAnswersLaw, SameLinesLaw};
+ghost use Rattle.free_pairs.specs.Alike.{AsksAreAskedAgainLaw, FreeAnswersSameRunLaw, FreeAsksAreAskedAgainLaw, FreeLinesSameStateLaw};
+ghost use Rattle.free_pairs.specs.Alike.{SameAnswersSameRunLaw, SameLinesSameStateLaw};
 
 /// The same answers, the same run: where what happened and what the drivers answered in one run stand at the front of what happened and
-/// was answered in another, over drivers of the same kinds and names, all that the one did and printed stands at the front of what the
-/// other did.
+/// was answered in another, which goes beyond that, all that the one did and printed stands at the front of what the other did.
 pub fn same_answers_same_run()
-    ensures { SameAnswersLaw }
+    ensures { SameAnswersSameRunLaw }
 {}
 
-/// After the same lines, over drivers of the same kinds and names, two runs are in one state but for the books.
+/// After the same lines two runs are in one state but for the books.
 pub fn same_lines_same_state()
-    ensures { SameLinesLaw }
+    ensures { SameLinesSameStateLaw }
 {}
 
-/// What is asked is asked again: where the same happened and was answered so far, two runs that each now ask a driver ask the same
-/// driver the same for the same device.
-pub fn asks_are_determined()
-    ensures { NextAskLaw }
+/// What is asked is asked again: whom a run is to ask next, what, and for which device, is asked after the same lines in each run in
+/// which the same happened and was answered so far, and which goes beyond that.
+pub fn asks_are_asked_again()
+    ensures { AsksAreAskedAgainLaw }
 {}
 
 /// The same answers make the same run also of runs whatever the drivers answer.
 pub fn free_answers_same_run()
-    ensures { FreeAnswersLaw }
+    ensures { FreeAnswersSameRunLaw }
 {}
 
-/// And there the next ask is determined too, with the whole state.
-pub fn free_asks_are_determined()
-    ensures { FreeNextLaw }
+/// And there the same lines lead to one state, books and all.
+pub fn free_lines_same_state()
+    ensures { FreeLinesSameStateLaw }
+{}
+
+/// And what is asked is asked again.
+pub fn free_asks_are_asked_again()
+    ensures { FreeAsksAreAskedAgainLaw }
 {}
