@@ -11,10 +11,7 @@ use Rattle.pnp_model.specs.Machine.{Steps}
 use Rattle.pnp_model.specs.Records.{Driver, Settings, State}
 use Rattle.free_model.specs.Asking.{AsksSo, answered, is_ask}
 use Rattle.free_model.specs.Asks.{Query, next_query}
-use Rattle.free_model.specs.Frees.{FreeSteps, told, with_rack}
 use Rattle.free_model.proofs.AskSteps.{each_step_asks}
-use Rattle.free_model.proofs.Racks.{faces_told, same_names}
-use Rattle.free_model.proofs.SameQueries.{query_same}
 use Rattle.free_pairs.specs.Alike.{TellsAsk}
 use Rattle.free_pairs.specs.Answers.{added, answer}
 
@@ -41,12 +38,3 @@ pub tells_ask : (settings : Settings) (s : State) (label : Label) (new : State) 
 tells_ask settings s label new q steps is =
     let so : AsksSo (Some q) s.core.rack label new.core.rack = subst (λ (o : Option Query). AsksSo o s.core.rack label new.core.rack) is (each_step_asks settings s label new steps) in
     record { answer = rack_reply q.what q.path s.core.rack q.driver; is = so.0 }
-
-pub free_tells_ask : (settings : Settings) (s : State) (label : Label) (new : State) (q : Query) → FreeSteps settings s label new → next_query s ≡ Some q → TellsAsk q (name_of s.core.rack q.driver) label
-free_tells_ask settings s label new q (reply, (mid, steps, e)) is =
-    let rack : List Driver = told reply s.core.rack in
-    let by = tells_ask settings (with_rack rack s) label mid q steps (query_same rack s ∙ is) in
-    record {
-      answer = by.answer;
-      is = by.is ∙ ap (λ (name : Text). answered q.what q.path name by.answer) (same_names rack s.core.rack q.driver (faces_told reply s.core.rack));
-    }

@@ -1,5 +1,6 @@
-mod Asked
 mod Twins
+mod Asked
+mod Happenings
+mod Loose
 mod Fronts
-mod Frees
 pub mod TwoRuns

@@ -11,7 +11,7 @@ use Rattle.pnp_model.specs.Walks.{shown_of}
 use Rattle.free_model.specs.Asking.{said}
 use Rattle.free_model.specs.Asks.{Query, next_query}
 use Rattle.free_model.specs.Frees.{with_rack}
-use Rattle.free_model.specs.Shapes.{shapes}
+use Rattle.free_model.specs.Shapes.{faces}
 use Rattle.free_model.proofs.Alikes.{Alike, does, rests, searches}
 use Rattle.free_model.proofs.Outs.{shapes_by}
 use Rattle.free_model.proofs.Racks.{faces_of}
@@ -48,25 +48,35 @@ way_steps settings q a r u v (searches p f k way) h g =
     let found : h.0 ≡ g.0 = answer_one p.fixed p.movers settings.budget h.0 g.0 h.1 g.1 in
     subst (λ (s : Step). Way q a r s v) (sym h.2) (subst (λ (t : Step). Way q a r (f h.0) t) (sym (g.2 ∙ ap k (sym found))) (way h.0))
 
+-- who was asked keeps kind and name
+faces_by : (q : Option Query) (rack : List Driver) → faces (rack_by q rack) ≡ faces rack
+faces_by q rack = faces_of (rack_by q rack) rack (shapes_by q rack)
+
 -- a state and the same with other books
-pub way_of : (settings : Settings) (s : State) (r : List Driver) (a b : Label) (x y : State) → shapes r ≡ shapes s.core.rack → Steps settings s a x → Steps settings (with_rack r s) b y
+pub way_of : (settings : Settings) (s : State) (r : List Driver) (a b : Label) (x y : State) → faces r ≡ faces s.core.rack → Steps settings s a x → Steps settings (with_rack r s) b y
     → Way (next_query s) s.core.rack r (record { label = a; state = x }) (record { label = b; state = y })
 way_of settings s r a b x y e h g =
     way_steps settings (next_query s) s.core.rack r (record { label = a; state = x }) (record { label = b; state = y })
-    (way_next settings s r (faces_of r s.core.rack e)) h g
+    (way_next settings s r e) h g
 
--- after the same label: one state with other books again
+-- one state with other books
 pub record Twins (x y : State) : Type 0 where
   pub rack : List Driver
   pub is : y ≡ with_rack rack x
-  pub shown : shapes rack ≡ shapes x.core.rack
+  pub shown : faces rack ≡ faces x.core.rack
 
-pub twins_of : (settings : Settings) (s : State) (r : List Driver) (a b : Label) (x y : State) → shapes r ≡ shapes s.core.rack → Steps settings s a x → Steps settings (with_rack r s) b y → a ≡ b → Twins x y
+pub twins_of : (settings : Settings) (s : State) (r : List Driver) (a b : Label) (x y : State) → faces r ≡ faces s.core.rack → Steps settings s a x → Steps settings (with_rack r s) b y → a ≡ b → Twins x y
 twins_of settings s r a b x y e h g same =
     let way = way_of settings s r a b x y e h g in
     let q : Option Query = next_query s in
     record {
       rack = rack_by q r;
       is = way.same same;
-      shown = shapes_by q r ∙ e ∙ sym (shapes_by q s.core.rack) ∙ ap shapes (sym way.own);
+      shown = faces_by q r ∙ e ∙ sym (faces_by q s.core.rack) ∙ ap faces (sym way.own);
     }
+
+-- a step keeps kinds and names
+pub faces_kept : (settings : Settings) (s : State) (a : Label) (x : State) → Steps settings s a x → faces x.core.rack ≡ faces s.core.rack
+faces_kept settings s a x h =
+    let way = way_of settings s s.core.rack a a x x refl h h in
+    ap faces way.own ∙ faces_by (next_query s) s.core.rack

@@ -4,7 +4,7 @@ ghost use Rattle.free_pairs.specs.Alike.{AsksAreAskedAgainLaw, FreeAnswersSameRu
 ghost use Rattle.free_pairs.specs.Alike.{SameAnswersSameRunLaw, SameLinesSameStateLaw};
 
 /// The same answers, the same run: where what happened and what the drivers answered in one run stand at the front of what happened and
-/// was answered in another, which goes beyond that, all that the one did and printed stands at the front of what the other did.
+/// was answered in another, and the other goes beyond that, all that the one did and printed stands at the front of what the other did.
 pub fn same_answers_same_run()
     ensures { SameAnswersSameRunLaw }
 {}
@@ -25,12 +25,12 @@ pub fn free_answers_same_run()
     ensures { FreeAnswersSameRunLaw }
 {}
 
-/// And there the same lines lead to one state, books and all.
+/// There too the same lines lead to one state but for the books.
 pub fn free_lines_same_state()
     ensures { FreeLinesSameStateLaw }
 {}
 
-/// And what is asked is asked again.
+/// And there too what is asked is asked again.
 pub fn free_asks_are_asked_again()
     ensures { FreeAsksAreAskedAgainLaw }
 {}
