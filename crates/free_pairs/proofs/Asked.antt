@@ -8,7 +8,7 @@ use Rattle.pnp_labels.specs.declared.words.AskWhat.{AskWhat}
 use Rattle.pnp_labels.specs.declared.words.AskWhat.TheVariants.{Add, Irp}
 use Rattle.pnp_model.specs.Books.{name_of, rack_reply}
 use Rattle.pnp_model.specs.Machine.{Steps}
-use Rattle.pnp_model.specs.Records.{Driver, Settings, State}
+use Rattle.pnp_model.specs.Records.{Settings, State}
 use Rattle.free_model.specs.Asking.{AsksSo, answered, is_ask}
 use Rattle.free_model.specs.Asks.{Query, next_query}
 use Rattle.free_model.proofs.AskSteps.{each_step_asks}

@@ -1,5 +1,5 @@
 -- An event that teaches nobody does the same over drivers of the same kinds and names; and one that teaches changes books alone.
-use Rattle.std.proofs.Common.{◌≡◌, Bool, true, false, not, ◌&&◌, List, [], ◌∷◌, map, length, Option, Some, None, find, is_some, is_none, option_map, nat_le, refl, sym, ap, ◌∙◌, subst, cond, if◌then◌else◌}
+use Rattle.std.proofs.Common.{◌≡◌, Bool, true, false, not, ◌&&◌, List, [], ◌∷◌, length, Some, find, is_some, is_none, option_map, nat_le, refl, sym, ap, ◌∙◌, subst, cond, if◌then◌else◌}
 use Rattle.pnp_labels.specs.Texts.{Text}
 use Rattle.pnp_labels.specs.declared.event.Event.{Event}
 use Rattle.pnp_labels.specs.declared.label.EventWord.{EventWord}

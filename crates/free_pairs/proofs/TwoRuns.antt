@@ -1,5 +1,5 @@
 -- The laws over two runs with the same answers.
-use Rattle.std.proofs.Common.{◌≡◌, inl, inr, List, [], ◌∷◌, ◌++◌, Option, Some, None, refl, sym, ap, ◌∙◌, subst}
+use Rattle.std.proofs.Common.{◌≡◌, inl, inr, List, [], ◌∷◌, ◌++◌, Option, Some, None, sym, ap, ◌∙◌, subst}
 use Rattle.std.proofs.lemmas.List.{append-nil}
 use Rattle.pnp_labels.specs.Texts.{Text}
 use Rattle.pnp_labels.specs.declared.event.Event.{Event}
@@ -15,11 +15,9 @@ use Rattle.free_model.proofs.AskSteps.{quiet_asks_nobody}
 use Rattle.free_model.proofs.Racks.{same_names}
 use Rattle.free_model.proofs.SameQueries.{query_same}
 use Rattle.free_pairs.specs.Alike.{AreAlike, AsksAreAskedAgainLaw, ComesFirst, FreeAnswersSameRunLaw, FreeAsksAreAskedAgainLaw, FreeLinesSameStateLaw, GoesBeyond, IsAskedAgain, SameAnswersSameRunLaw, SameLinesSameStateLaw, TellsAsk, plain}
-use Rattle.free_pairs.specs.Answers.{answers}
 use Rattle.free_pairs.proofs.Asked.{tells_ask}
 use Rattle.free_pairs.proofs.Fronts.{front_of, same_end}
 use Rattle.free_pairs.proofs.Loose.{LooseRun, answers_plain, loosen, of_free, of_run, through}
-use Rattle.free_pairs.proofs.Twins.{Twins}
 
 -- From one state, whatever the books --------------------------------------------------------
 
