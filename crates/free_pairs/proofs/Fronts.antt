@@ -33,13 +33,14 @@ module _ (settings : Settings) where
       → happens (with_rack q s) event ≡ record { label = a; state = x } → happens (with_rack r s) other ≡ record { label = b; state = y } → (b ≡ a) × Twins x y
   event_twins s q r event other a b x y plain e f own h g =
       let twin = twin_happens (with_rack q s) r event plain (f ∙ sym e) in
-      let second : happens (with_rack r s) event ≡ record { label = b; state = y } = ap (happens (with_rack r s)) (sym own) ∙ g in
-      (sym (ap (λ (z : Step). z.label) second) ∙ twin.label ∙ ap (λ (z : Step). z.label) h,
-      record {
-        rack = twin.state.rack;
-        is = sym (ap (λ (z : Step). z.state) second) ∙ twin.state.is ∙ ap (λ (z : Step). with_rack twin.state.rack z.state) h;
-        shown = twin.state.shown ∙ ap (λ (z : Step). faces z.state.core.rack) h;
-      })
+      let second : happens (with_rack r s) event ≡ record { label = b; state = y } = ap (happens (with_rack r s)) (sym own) ∙ g in (
+        sym (ap (λ (z : Step). z.label) second) ∙ twin.label ∙ ap (λ (z : Step). z.label) h,
+        record {
+          rack = twin.state.rack;
+          is = sym (ap (λ (z : Step). z.state) second) ∙ twin.state.is ∙ ap (λ (z : Step). with_rack twin.state.rack z.state) h;
+          shown = twin.state.shown ∙ ap (λ (z : Step). faces z.state.core.rack) h;
+        },
+      )
 
   -- a run that goes beyond does not end where the other does a step
   no_end : (s : State) (q : List Driver) (a : Label) (mid y : State) (xs : List Entry) (more : List Event) (told : List Shown) → GoesBeyond settings y more told → Twins s y → Steps settings (with_rack q s) a mid

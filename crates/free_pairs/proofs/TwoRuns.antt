@@ -42,8 +42,12 @@ asks_there : (settings : Settings) (q : Query) (name : Text) (one two rest : Lis
     → plain two ≡ plain one ++ rest → LooseRun settings u rest t → IsAskedAgain q name one two t
 asks_there settings q name one two [] u t named is same twins = inr (same ∙ append-nil (plain one), ap next_query twins.is ∙ query_same twins.rack u ∙ is)
 asks_there settings q name one two (Did label ∷ rest) u t named is same (r, mid, e, goes, run) =
-    inl (label, rest, same,
-    subst (λ (word : Text). TellsAsk q word label) (same_names r u.core.rack q.driver e ∙ named) (tells_ask settings (with_rack r u) label mid q goes (query_same r u ∙ is)))
+    inl (
+      label,
+      rest,
+      same,
+      subst (λ (word : Text). TellsAsk q word label) (same_names r u.core.rack q.driver e ∙ named) (tells_ask settings (with_rack r u) label mid q goes (query_same r u ∙ is)),
+    )
 asks_there settings q name one two (Happens event label ∷ rest) u t named is same (r, mid, e, goes, run) =
     absurd (some_none (next_query (with_rack r u)) q (query_same r u ∙ is) (quiet_asks_nobody settings (with_rack r u) goes.0))
 asks_there settings q name one two (Declines label ∷ rest) u t named is same (r, mid, e, goes, run) = absurd goes
