@@ -1,4 +1,5 @@
-ghost use Rattle.std.specs.Prelude.{◌≡◌};
+ghost use Rattle.std.specs.Prelude.{◌≡◌, IfOk};
+ghost use Rattle.live_model.specs.Notes.{may_pend};
 
 use device_ids::{Text, WantOfMemory};
 use free_run::FreeRun;
@@ -46,11 +47,24 @@ fn query_words(alloc: Global, query: &Query<'_>, driver: &Text) -> Result<Vec<u8
     Ok(words)
 }
 
+/// Whether the answer may be that it is pending: AddDevice is not pended.
+fn may_pend(what: AskWhat) -> bool
+    ensures { result ≡ may_pend what }
+{
+    match what {
+        AskWhat::Add => false,
+        AskWhat::Irp(_) => true,
+    }
+}
+
 /// The ask of a query of the driver of a name.
-fn ask_of(alloc: Global, query: &Query<'_>, driver: &Text) -> Result<LiveAsk, WantOfMemory> {
+fn ask_of(alloc: Global, query: &Query<'_>, driver: &Text) -> Result<LiveAsk, WantOfMemory>
+    ensures driver { IfOk result (λ ask. ask.driver ≡ driver.now) }
+    ensures may_pend { IfOk result (λ ask. ask.may_pend ≡ may_pend query.now.what) }
+{
     let words = query_words(alloc, query, driver)?;
     let driver = driver.copy(alloc)?;
-    let may_pend = !matches!(query.what, AskWhat::Add);
+    let may_pend = may_pend(query.what);
     Ok(LiveAsk {
         words,
         driver,
@@ -76,14 +90,20 @@ impl Machine for ProgramMachine {
 
     ghost events = { λ m. m.run.events };
 
+    #[tactic(auto, using(crate::proofs::Asking::nobody, crate::proofs::Asking::unnamed, crate::proofs::Asking::another, crate::proofs::Asking::somebody))]
     fn live_ask(&self, alloc: Global, live: &LiveDrivers) -> Result<Option<LiveAsk>, WantOfMemory> {
         let Some(query) = self.run.query() else {
             return Ok(None);
         };
-        match self.run.driver_name(query.driver) {
-            Some(driver) if live.has(driver) => Ok(Some(ask_of(alloc, &query, driver)?)),
-            _ => Ok(None),
+        // a driver that is asked has a name
+        let Some(driver) = self.run.driver_name(query.driver) else {
+            return Ok(None);
+        };
+        if !live.has(driver) {
+            return Ok(None);
         }
+        let ask = ask_of(alloc, &query, driver)?;
+        Ok(Some(ask))
     }
 
     fn step_by(&mut self, answer: Answer) -> Result<Option<Label>, WantOfMemory> {

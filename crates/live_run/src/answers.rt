@@ -1,64 +1,70 @@
 //! The lines of the answers.
+ghost use Rattle.std.specs.Prelude.{◌≡◌, IfOk, map, option_map};
+ghost use Rattle.std.specs.List.{list_all};
+ghost use Rattle.std.specs.Str.{bytes_eq};
+ghost use Rattle.script_reader.specs.Words.{is_name};
+ghost use Rattle.live_model.specs.Answers.{are_tags, behind, is_taken, words_in};
+
 use device_ids::{WantOfMemory, cut};
 use pnp_labels::{Answer, Minor, decimal};
-use script_reader::{answer_of, is_name, minor_of, ok_of};
+use script_reader::{is_name, minor_of, ok_of};
 use std::alloc::Global;
 
-/// The number of its ask, and the words behind it, of a line.
+/// Whether a word is this one.
+pub(crate) fn is_word(word: &[u8], own: &[u8]) -> bool
+    ensures { result ≡ bytes_eq word.now own.now }
+{
+    word == own
+}
+
+/// The words behind the first, where that is this one.
+fn behind<'a>(
+    alloc: Global,
+    words: &[&'a [u8]],
+    number: &[u8],
+) -> Result<Option<Vec<&'a [u8]>>, WantOfMemory>
+    ensures { IfOk result (λ more. option_map (λ v. map (λ w. w.now) v.items) more ≡ behind number.now (map (λ w. w.now) words.now)) }
+{
+    match words {
+        [first, more @ ..] if is_word(first, number) => Ok(Some(Vec::from_slice(alloc, more)?)),
+        _ => Ok(None),
+    }
+}
+
+/// The words of a line behind the number of its ask; none where it begins with no such number.
 pub(crate) fn words_of(
     alloc: Global,
     line: &[u8],
     number: u64,
-) -> Result<Option<Vec<&[u8]>>, WantOfMemory> {
+) -> Result<Option<Vec<&[u8]>>, WantOfMemory>
+    ensures { IfOk result (λ words. option_map (λ v. map (λ w. w.now) v.items) words ≡ words_in number line.now) }
+{
     let words = cut(alloc, line, b' ')?;
     let own = decimal(alloc, number)?;
-    match words.as_slice() {
-        [first, behind @ ..] if *first == own.as_bytes() => {
-            Ok(Some(Vec::from_slice(alloc, behind)?))
-        }
-        _ => Ok(None),
-    }
+    behind(alloc, &words, own.as_bytes())
 }
 
-/// Whether each word has the form of a tag, which is that of a name.
-fn are_tags(words: &[&[u8]]) -> bool {
+/// Whether each word is a name.
+fn are_names(words: &[&[u8]]) -> bool
+    ensures { result ≡ list_all (λ w. is_name w.now) words.now }
+{
     words.iter().all(|word| is_name(word))
 }
 
+/// Whether each word has the form of a tag, which is that of a name.
+pub(crate) fn are_tags(words: &[&[u8]]) -> bool
+    ensures { result ≡ are_tags (map (λ w. w.now) words.now) }
+{
+    are_names(words)
+}
+
 /// Whether an answer may be given: AddDevice is not pended.
-fn is_taken(may_pend: bool, answer: Answer) -> bool {
+pub(crate) fn is_taken(may_pend: bool, answer: Answer) -> bool
+    ensures { result ≡ is_taken may_pend answer }
+{
     match answer {
         Answer::Pend => may_pend,
         _ => true,
-    }
-}
-
-/// What a driver answers, and the tags behind it.
-#[derive(Drop)]
-pub(crate) struct Reply<'a> {
-    pub(crate) answer: Answer,
-    pub(crate) tags: Vec<&'a [u8]>,
-}
-
-/// What a line answers to the ask of this number; none where it is no answer to it.
-pub(crate) fn reply_of(
-    alloc: Global,
-    line: &[u8],
-    number: u64,
-    may_pend: bool,
-) -> Result<Option<Reply<'_>>, WantOfMemory> {
-    let Some(words) = words_of(alloc, line, number)? else {
-        return Ok(None);
-    };
-    let [word, tags @ ..] = words.as_slice() else {
-        return Ok(None);
-    };
-    match answer_of(word) {
-        Some(answer) if is_taken(may_pend, answer) && are_tags(tags) => {
-            let tags = Vec::from_slice(alloc, tags)?;
-            Ok(Some(Reply { answer, tags }))
-        }
-        _ => Ok(None),
     }
 }
 
@@ -78,11 +84,6 @@ pub(crate) struct Completion<'a> {
     pub(crate) minor: Minor,
     pub(crate) ok: bool,
     pub(crate) tags: Vec<&'a [u8]>,
-}
-
-/// Whether a word is this one.
-fn is_word(word: &[u8], own: &[u8]) -> bool {
-    word == own
 }
 
 /// The completion that these words and tags say, if they say one.

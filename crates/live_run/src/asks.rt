@@ -1,4 +1,7 @@
 //! What a live driver is asked.
+ghost use Rattle.std.specs.Prelude.{◌≡◌, [], IfOk};
+ghost use Rattle.live_model.specs.Notes.{ask_words};
+
 use device_ids::{Text, WantOfMemory};
 use std::alloc::Global;
 
@@ -25,7 +28,9 @@ pub fn ask_words(
     what: &[u8],
     path: &[u8],
     driver: &Text,
-) -> Result<Vec<u8>, WantOfMemory> {
+) -> Result<Vec<u8>, WantOfMemory>
+    ensures { IfOk result (λ words. words.items ≡ ask_words what.now path.now driver.now []) }
+{
     let mut words = Vec::from_slice(alloc, what)?;
     words.push(b' ')?;
     words.extend_from_slice(path)?;

@@ -7,9 +7,10 @@ ghost use Rattle.live_model.specs.Moves.{HasFewIds};
 
 use crate::live::LiveDrivers;
 use crate::machine::Machine;
+use crate::notes::push_numbered;
 use crate::step::take_step;
 use crate::stop::{DriveError, Ended, Stop};
-use crate::talk::{Talk, push_numbered};
+use crate::talk::Talk;
 use crate::trail::Trail;
 use live_io::Peer;
 use pnp_labels::Event;

@@ -6,6 +6,7 @@ mod asks;
 mod driving;
 mod live;
 mod machine;
+mod notes;
 mod poll;
 mod probe;
 mod step;

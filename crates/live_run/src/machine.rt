@@ -2,7 +2,9 @@ ghost use Rattle.std.specs.Prelude.{◌≡◌, ◌<◌, ◌+◌, ◌^◌, IfOk, 
 ghost use Rattle.pnp_model.specs.Endings.{ending, joined};
 ghost use Rattle.pnp_model.specs.Events.{happens};
 ghost use Rattle.pnp_model.specs.Machine.{IsQuiet};
+ghost use Rattle.live_model.specs.Lives.{live_query};
 ghost use Rattle.live_model.specs.Moves.{HasFewIds, HasHappened, MovesBy, MovesOwn};
+ghost use Rattle.live_run.specs.Views.{IfAsks, lives_of};
 
 use crate::asks::LiveAsk;
 use crate::live::LiveDrivers;
@@ -25,8 +27,9 @@ pub trait Machine: Drop {
     /// How many events happened.
     ghost events: { Self → ℕ };
 
-    /// What the next step asks, where it asks a live driver.
-    fn live_ask(&self, alloc: Global, live: &LiveDrivers) -> Result<Option<LiveAsk>, WantOfMemory>;
+    /// What the next step asks, where it asks a live driver; none where it asks another, or nobody, or no step is next.
+    fn live_ask(&self, alloc: Global, live: &LiveDrivers) -> Result<Option<LiveAsk>, WantOfMemory>
+        ensures { IfOk result (λ ask. IfAsks ask (state self.now) (live_query (lives_of live.now) (state self.now))) };
 
     /// The step in which the driver that is asked answers so; no book changes. None exactly where no step is next.
     fn step_by(&mut self, answer: Answer) -> Result<Option<Label>, WantOfMemory>

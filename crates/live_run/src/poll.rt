@@ -4,8 +4,9 @@ ghost use Rattle.pnp_io.specs.Outside.{Rose};
 ghost use Rattle.live_run.specs.declared.stop.DriveError.TheVariants.{ReadFault, WriteFault};
 
 use crate::answers::{Completion, Polled, polled_of};
+use crate::notes::{push_done, push_tags};
 use crate::stop::Stop;
-use crate::talk::{Talk, push_done, push_tags};
+use crate::talk::Talk;
 use crate::trail::Trail;
 use device_ids::{InstancePath, PathError, Text, WantOfMemory};
 use live_io::Peer;

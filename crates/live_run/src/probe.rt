@@ -1,18 +1,23 @@
 //! Whether drivers take requests of programs as they may.
-ghost use Rattle.std.specs.Prelude.{◌≡◌, ◌≤◌, IsErrOf};
+ghost use Rattle.std.specs.Prelude.{◌≡◌, ◌≤◌, IfOk, IsErrOf};
 ghost use Rattle.pnp_io.specs.Outside.{Rose};
+ghost use Rattle.live_model.specs.Notes.{answer_text, fits, misfit_tag};
 ghost use Rattle.live_run.specs.declared.stop.DriveError.TheVariants.{ReadFault, WriteFault};
 
-use crate::answers::reply_of;
+use crate::answers::{are_tags, words_of};
+use crate::notes::{push_broke, push_tags};
 use crate::stop::Stop;
-use crate::talk::{Talk, push_broke, push_tags};
+use crate::talk::Talk;
 use device_ids::{Text, WantOfMemory};
 use live_io::Peer;
 use pnp_labels::{Answer, DevState, state_text};
+use script_reader::answer_of;
 use std::alloc::Global;
 
 /// The word of an answer.
-fn answer_text(answer: Answer) -> &'static [u8] {
+fn answer_text(answer: Answer) -> &'static [u8]
+    ensures { result.now ≡ answer_text answer }
+{
     match answer {
         Answer::Ok => b"ok",
         Answer::Fail => b"fail",
@@ -22,7 +27,9 @@ fn answer_text(answer: Answer) -> &'static [u8] {
 
 /// Whether a driver of a device in this state may do so with a create request (Oney, on the states of a device): take it, refuse it or keep
 /// it for later. Of one that is NotStarted nothing is asked: where a driver above failed the start, those below had started.
-fn fits(state: DevState, answer: Answer) -> bool {
+fn fits(state: DevState, answer: Answer) -> bool
+    ensures { result ≡ fits state answer }
+{
     match state {
         DevState::Started => !matches!(answer, Answer::Fail),
         DevState::StopPending | DevState::RemovePending | DevState::NotStarted => true,
@@ -32,7 +39,9 @@ fn fits(state: DevState, answer: Answer) -> bool {
 }
 
 /// The tag of an answer that does not fit the state.
-fn misfit(alloc: Global, state: DevState, answer: Answer) -> Result<Vec<u8>, WantOfMemory> {
+fn misfit_tag(alloc: Global, state: DevState, answer: Answer) -> Result<Vec<u8>, WantOfMemory>
+    ensures { IfOk result (λ tag. tag.items ≡ misfit_tag state answer) }
+{
     let mut tag = Vec::from_slice(alloc, b"probe-")?;
     tag.extend_from_slice(state_text(state))?;
     tag.push(b'-')?;
@@ -41,6 +50,32 @@ fn misfit(alloc: Global, state: DevState, answer: Answer) -> Result<Vec<u8>, Wan
 }
 
 impl Talk {
+    /// Takes the line that was heard as the answer to a probe of a device in this state, if it is one: which rules were broken is to be said.
+    fn take_probed(
+        &mut self,
+        alloc: Global,
+        driver: &Text,
+        state: DevState,
+    ) -> Result<bool, WantOfMemory> {
+        let Some(words) = words_of(alloc, &self.line, self.asks)? else {
+            return Ok(false);
+        };
+        let [word, tags @ ..] = words.as_slice() else {
+            return Ok(false);
+        };
+        match answer_of(word) {
+            Some(answer) if are_tags(tags) => {
+                if !fits(state, answer) {
+                    let tag = misfit_tag(alloc, state, answer)?;
+                    push_broke(&mut self.said, self.asks, driver.bytes(), &tag)?;
+                }
+                push_tags(&mut self.said, self.asks, driver.bytes(), tags)?;
+                Ok(true)
+            }
+            _ => Ok(false),
+        }
+    }
+
     /// Asks a driver what it does with a create request now; which rules it broke is to be said.
     #[tactic(auto, using(crate::proofs::Faults::rose_behind))]
     pub(crate) fn probe_driver<P: Peer>(
@@ -57,14 +92,10 @@ impl Talk {
         ensures reads { P.read_faults peer.old ≤ P.read_faults peer.new }
     {
         self.ask(words, peer)?;
-        let Some(reply) = reply_of(alloc, &self.line, self.asks, true)? else {
-            return Err(Stop::Bad);
-        };
-        if !fits(state, reply.answer) {
-            let tag = misfit(alloc, state, reply.answer)?;
-            push_broke(&mut self.said, self.asks, driver.bytes(), &tag)?;
+        if self.take_probed(alloc, driver, state)? {
+            Ok(())
+        } else {
+            Err(Stop::Bad)
         }
-        push_tags(&mut self.said, self.asks, driver.bytes(), &reply.tags)?;
-        Ok(())
     }
 }

@@ -3,6 +3,8 @@ ghost use Rattle.pnp_io.specs.Outside.{Rose};
 ghost use Rattle.live_run.specs.declared.stop.DriveError.TheVariants.{ReadFault, WriteFault};
 ghost use Rattle.std.specs.Prelude.{◌≡◌, ◌≤◌, IfOk, IsErrOf, None, OnOk, false};
 ghost use Rattle.pnp_model.specs.Machine.{IsQuiet};
+ghost use Rattle.live_run.specs.Steps.{IfMade, Makes};
+ghost use Rattle.live_run.specs.Views.{lives_of};
 
 use crate::asks::ask_words;
 use crate::live::LiveDrivers;
@@ -16,7 +18,7 @@ use pnp_labels::{DevState, Label};
 use std::alloc::Global;
 
 /// The label of the next step, in which a live driver answers what is heard and another one by its book; none where no step is next.
-#[tactic(auto, using(crate::proofs::Faults::rose_behind))]
+#[tactic(auto, using(crate::proofs::Faults::rose_behind, crate::proofs::Making::made_by_books, crate::proofs::Making::made_by_answer))]
 fn next_label<M: Machine, P: Peer>(
     alloc: Global,
     machine: &mut M,
@@ -24,6 +26,7 @@ fn next_label<M: Machine, P: Peer>(
     talk: &mut Talk,
     peer: &mut P,
 ) -> Result<Option<Label>, Stop>
+    ensures makes { IfOk result (λ label. Makes label (lives_of live.now) (M.settings machine.old) (M.state machine.old) (M.state machine.new) (P.answers peer.old) (P.answers peer.new)) }
     ensures quiet { IfOk result (λ label. label ≡ None → IsQuiet (M.settings machine.new) (M.state machine.new)) }
     ensures same { M.settings machine.new ≡ M.settings machine.old }
     ensures events { M.events machine.new ≡ M.events machine.old }
@@ -76,6 +79,7 @@ pub(crate) fn take_step<M: Machine, P: Peer>(
     talk: &mut Talk,
     peer: &mut P,
 ) -> Result<bool, Stop>
+    ensures makes { IfOk result (λ more. IfMade more (lives_of live.now) (M.settings machine.old) (M.state machine.old) (M.state machine.new) (P.answers peer.old)) }
     ensures quiet { IfOk result (λ more. more ≡ false → IsQuiet (M.settings machine.new) (M.state machine.new)) }
     ensures same { M.settings machine.new ≡ M.settings machine.old }
     ensures events { M.events machine.new ≡ M.events machine.old }

@@ -23,7 +23,7 @@ pub enum DriveError {
     WriteFault,
     /// Memory was refused.
     WantOfMemory,
-    /// More than 16,777,216 events happened.
+    /// More than 16,777,216 events happened, or there were 2^64 asks.
     TooLarge,
 }
 

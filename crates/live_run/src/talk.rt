@@ -1,13 +1,19 @@
 //! What is said, and what is heard.
-ghost use Rattle.std.specs.Prelude.{◌≡◌, ◌≤◌, IsErrOf};
+ghost use Rattle.std.specs.Prelude.{◌≡◌, ◌≤◌, IfOk, IsErrOf, OnOk};
 ghost use Rattle.pnp_io.specs.Outside.{Rose};
+ghost use Rattle.live_io.specs.Turns.{Hears};
+ghost use Rattle.live_io.specs.declared.peer.Heard.TheVariants.{Line};
+ghost use Rattle.live_model.specs.Answers.{reply_in};
 ghost use Rattle.live_run.specs.declared.stop.DriveError.TheVariants.{ReadFault, WriteFault};
+ghost use Rattle.live_run.specs.Steps.{Replies, TakesReply};
 
-use crate::answers::reply_of;
-use crate::stop::Stop;
+use crate::answers::{are_tags, is_taken, words_of};
+use crate::notes::{push_ask, push_tags};
+use crate::stop::{DriveError, Stop};
 use device_ids::{Text, WantOfMemory};
 use live_io::{Heard, Peer, PeerError};
-use pnp_labels::{Answer, Label, push_decimal, push_line};
+use pnp_labels::{Answer, Label, push_line};
+use script_reader::answer_of;
 use std::alloc::Global;
 
 /// The first line of the answers.
@@ -33,68 +39,6 @@ impl Drop for Talk {
     }
 }
 
-/// Appends the note of an ask.
-fn push_ask(out: &mut Vec<u8>, ask: u64, words: &[u8]) -> Result<(), WantOfMemory> {
-    out.extend_from_slice(b"# ask ")?;
-    push_decimal(out, ask)?;
-    out.push(b' ')?;
-    out.extend_from_slice(words)?;
-    out.push(b'\n')?;
-    Ok(())
-}
-
-/// Appends the note that a poll was answered by a completion of this driver.
-pub(crate) fn push_done(out: &mut Vec<u8>, ask: u64, driver: &[u8]) -> Result<(), WantOfMemory> {
-    out.extend_from_slice(b"# done ")?;
-    push_decimal(out, ask)?;
-    out.push(b' ')?;
-    out.extend_from_slice(driver)?;
-    out.push(b'\n')?;
-    Ok(())
-}
-
-/// Appends the note that a driver broke the rule of a tag.
-pub(crate) fn push_broke(
-    out: &mut Vec<u8>,
-    ask: u64,
-    driver: &[u8],
-    tag: &[u8],
-) -> Result<(), WantOfMemory> {
-    out.extend_from_slice(b"# broke ")?;
-    push_decimal(out, ask)?;
-    out.push(b' ')?;
-    out.extend_from_slice(driver)?;
-    out.push(b' ')?;
-    out.extend_from_slice(tag)?;
-    out.push(b'\n')?;
-    Ok(())
-}
-
-/// Appends such a note for each tag, in their order.
-pub(crate) fn push_tags(
-    out: &mut Vec<u8>,
-    ask: u64,
-    driver: &[u8],
-    tags: &[&[u8]],
-) -> Result<(), WantOfMemory> {
-    for tag in tags {
-        push_broke(out, ask, driver, tag)?;
-    }
-    Ok(())
-}
-
-/// Appends a line of these words and a number behind them.
-pub(crate) fn push_numbered(
-    out: &mut Vec<u8>,
-    words: &[u8],
-    number: u64,
-) -> Result<(), WantOfMemory> {
-    out.extend_from_slice(words)?;
-    push_decimal(out, number)?;
-    out.push(b'\n')?;
-    Ok(())
-}
-
 impl Talk {
     /// A talk in which nothing was said.
     pub(crate) fn new(alloc: Global) -> Talk {
@@ -108,6 +52,7 @@ impl Talk {
     /// Says all that is to be said, and hears a line.
     #[tactic(auto, using(crate::proofs::Faults::rose_behind))]
     fn turn<P: Peer>(&mut self, peer: &mut P) -> Result<(), Stop>
+        ensures hears { OnOk result (Hears (P.answers peer.old) Line self.new.line.items (P.answers peer.new)) }
         ensures write_fault { IsErrOf result (Stop.Fault WriteFault) → Rose (P.write_faults peer.old) (P.write_faults peer.new) }
         ensures read_fault { IsErrOf result (Stop.Fault ReadFault) → Rose (P.read_faults peer.old) (P.read_faults peer.new) }
         ensures writes { P.write_faults peer.old ≤ P.write_faults peer.new }
@@ -169,17 +114,47 @@ impl Talk {
     /// The next ask, of these words, is said, and its answer is heard.
     #[tactic(auto, using(crate::proofs::Faults::rose_behind))]
     pub(crate) fn ask<P: Peer>(&mut self, words: &[u8], peer: &mut P) -> Result<(), Stop>
+        ensures hears { OnOk result (Hears (P.answers peer.old) Line self.new.line.items (P.answers peer.new)) }
         ensures write_fault { IsErrOf result (Stop.Fault WriteFault) → Rose (P.write_faults peer.old) (P.write_faults peer.new) }
         ensures read_fault { IsErrOf result (Stop.Fault ReadFault) → Rose (P.read_faults peer.old) (P.read_faults peer.new) }
         ensures writes { P.write_faults peer.old ≤ P.write_faults peer.new }
         ensures reads { P.read_faults peer.old ≤ P.read_faults peer.new }
     {
-        self.asks = self.asks.saturating_add(1);
-        push_ask(&mut self.said, self.asks, words)?;
+        let Some(asks) = self.asks.checked_add(1) else {
+            return Err(Stop::Fault(DriveError::TooLarge));
+        };
+        self.asks = asks;
+        push_ask(&mut self.said, asks, words)?;
         self.turn(peer)
     }
 
-    /// Asks a driver, and hears what it answers; which rules it broke is to be said.
+    /// Takes the line that was heard as a driver's answer: which rules it broke is to be said. None where it is no answer.
+    fn take_reply(
+        &mut self,
+        alloc: Global,
+        driver: &Text,
+        may_pend: bool,
+    ) -> Result<Option<Answer>, WantOfMemory>
+        ensures takes { IfOk result (λ answer. TakesReply answer (reply_in self.old.asks may_pend self.old.line.items) self.old.asks driver.now self.old.said.items self.new.said.items) }
+        ensures line { OnOk result (self.new.line ≡ self.old.line) }
+        ensures asks { OnOk result (self.new.asks ≡ self.old.asks) }
+    {
+        let Some(words) = words_of(alloc, &self.line, self.asks)? else {
+            return Ok(None);
+        };
+        let [word, tags @ ..] = words.as_slice() else {
+            return Ok(None);
+        };
+        match answer_of(word) {
+            Some(answer) if is_taken(may_pend, answer) && are_tags(tags) => {
+                push_tags(&mut self.said, self.asks, driver.bytes(), tags)?;
+                Ok(Some(answer))
+            }
+            _ => Ok(None),
+        }
+    }
+
+    /// Asks a driver, and hears what it answers: the next line of the answers says it. Which rules the driver broke is to be said.
     #[tactic(auto, using(crate::proofs::Faults::rose_behind))]
     pub(crate) fn ask_driver<P: Peer>(
         &mut self,
@@ -189,16 +164,16 @@ impl Talk {
         may_pend: bool,
         peer: &mut P,
     ) -> Result<Answer, Stop>
+        ensures replies { IfOk result (λ answer. Replies (P.answers peer.old) self.new.line.items (P.answers peer.new) self.new.asks may_pend answer) }
         ensures write_fault { IsErrOf result (Stop.Fault WriteFault) → Rose (P.write_faults peer.old) (P.write_faults peer.new) }
         ensures read_fault { IsErrOf result (Stop.Fault ReadFault) → Rose (P.read_faults peer.old) (P.read_faults peer.new) }
         ensures writes { P.write_faults peer.old ≤ P.write_faults peer.new }
         ensures reads { P.read_faults peer.old ≤ P.read_faults peer.new }
     {
         self.ask(words, peer)?;
-        let Some(reply) = reply_of(alloc, &self.line, self.asks, may_pend)? else {
-            return Err(Stop::Bad);
-        };
-        push_tags(&mut self.said, self.asks, driver.bytes(), &reply.tags)?;
-        Ok(reply.answer)
+        match self.take_reply(alloc, driver, may_pend)? {
+            Some(answer) => Ok(answer),
+            None => Err(Stop::Bad),
+        }
     }
 }

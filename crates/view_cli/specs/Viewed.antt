@@ -1,4 +1,4 @@
--- The page for a play of a script: a line for each label of its run, an arrow for each ask, how it ends, and the states behind its rows.
+-- The page for a play of a script: a line for each label of its run, an arrow for each ask, an end for each completion, how it ends, and the states behind its rows.
 use Rattle.std.specs.Prelude.{ℕ, ◌≡◌, Bool, true, false, List, [], ◌∷◌, ◌++◌, Option, Some, None, codes}
 use Rattle.std.specs.Fmt.{decimal}
 use Rattle.pnp_labels.specs.Texts.{Text}
@@ -67,7 +67,7 @@ StateMarks false settings f t labels marks = marks ≡ []
 StateMarks true settings f t labels marks = (states : Telling) × TellsStates settings f t labels states × (marks ≡ state_marks true states)
 
 -- The events of a script happen from a front on, and a text is a page of their run: it has the line of each label, in order, with an arrow
--- for each ask and no other, the bad line, the end of the output, and the states behind its rows, where they are wanted.
+-- for each ask, an end for each completion and no other, the bad line, the end of the output, and the states behind its rows, where they are wanted.
 pub record IsRunView (steps : Bool) (settings : Settings) (f : Front) (t : Trace) (text : Text) : Type 0 where
   pub labels : List Label
   pub last : Front

@@ -246,7 +246,7 @@ fn view_words<D: Driver, F: Files, K: Sink>(
 }
 
 /// Reads the words `[--step] [--budget N] SCRIPT [INF ..]`, the INFs and the script that they name, runs it over these drivers, and writes
-/// one page: it has the line of each label, in order, with an arrow for each ask and no other, the bad line, and the end of the output, and
+/// one page: it has the line of each label, in order, with an arrow for each ask, an end for each completion and no other, the bad line, and the end of the output, and
 /// with `--step` the states behind its rows; where an INF is refused, the line that tells it. Words that name no script, and those with
 /// `--check`, are refused. All is read before anything is written. The condition is that there are fewer than 2^32 drivers. Each status
 /// comes as its clauses say. It always returns. Cost: that of `run`, and that of the page. This project's own.

@@ -34,6 +34,14 @@ impl Bar<'_> {
             .is_err()
     }
 
+    /// Whether one of the other list is not in this one.
+    pub(crate) fn is_new(&self, other: &Holding) -> bool {
+        let key = other.key();
+        self.holdings
+            .binary_search_by_key(&key, |holding| holding.key())
+            .is_err()
+    }
+
     /// Whether something of a kind is held.
     fn has_kind(&self, kind: Kind) -> bool {
         for holding in self.holdings {

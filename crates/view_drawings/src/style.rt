@@ -16,14 +16,13 @@ pub const STYLE: &[u8] = b"\
 .drawing svg .row-words.used{fill:var(--used);fill-opacity:1;font-weight:bold}\n\
 .row-words.before{text-anchor:end}\n\
 .device-tree{list-style:none;margin:0;padding:0;overflow-x:auto}\n\
-.tree-node{box-sizing:border-box;padding:.25em 0 .25em .5em;margin-left:calc(var(--depth)*1.25em);min-width:15em;border-left:2px solid var(--used);margin-bottom:2px}\n\
-.tree-node code{overflow-wrap:anywhere}\n\
-.tree-number{opacity:.75;margin-right:.5em}\n\
-.tree-path{font-weight:bold;margin-right:.5em}\n\
-.tree-state{font-size:.85em;border:1px solid currentColor;border-radius:4px;padding:0 .4em;margin-right:.5em}\n\
-.tree-problem{color:var(--given);margin-right:.5em}\n\
-.tree-drivers{display:block;font-size:.9em}\n\
-.tree-held{background:var(--soft);border-radius:4px;padding:0 .3em;margin:0 .4em .2em 0;display:inline-block}\n\
+.device-tree li{box-sizing:border-box;padding:.25em 0 .25em .5em;margin-left:calc(var(--depth)*1.25em);min-width:15em;border-left:2px solid var(--used);margin-bottom:2px}\n\
+.device-tree span{opacity:.75;margin-right:.5em}\n\
+.device-tree b{font:bold 13px ui-monospace,monospace;overflow-wrap:anywhere;margin-right:.5em}\n\
+.device-tree em{font-style:normal;font-size:.85em;border:1px solid currentColor;border-radius:4px;padding:0 .4em;margin-right:.5em}\n\
+.device-tree .tree-problem{color:var(--given);opacity:1;font-weight:bold}\n\
+.device-tree div{font-size:.9em}\n\
+.device-tree code{overflow-wrap:anywhere;background:var(--soft);border-radius:4px;padding:0 .3em;margin:0 .4em .2em 0;display:inline-block}\n\
 .map-kind{font-weight:bold;margin:1em 0 .25em}\n\
 .map-none,.map-note{margin:.5em 0 0;font-size:.85em;opacity:.8}\n\
 .block{fill:var(--soft);stroke:currentColor;stroke-width:1}\n\
@@ -37,8 +36,8 @@ pub const STYLE: &[u8] = b"\
 .drawing svg .bar-words{font-style:italic}\n\
 .map-table{display:block;overflow-x:auto;border-collapse:collapse;font-size:.85em;margin:.25em 0 0}\n\
 .map-table td{padding:.1em .75em .1em 0;vertical-align:top}\n\
-.map-who,.map-range{font-family:ui-monospace,monospace}\n\
-.map-who{white-space:nowrap}\n\
-.map-owner{font-family:ui-monospace,monospace;overflow-wrap:anywhere;min-width:9em}\n\
-.map-line.moved .map-change{font-weight:bold;color:var(--used)}\n\
+.map-table td:nth-child(-n+3){font-family:ui-monospace,monospace}\n\
+.map-table td:first-child{white-space:nowrap}\n\
+.map-table td:nth-child(3){overflow-wrap:anywhere;min-width:9em}\n\
+.map-table .moved td:nth-child(5){font-weight:bold;color:var(--used)}\n\
 ";

@@ -4,6 +4,7 @@ use crate::names::DriverNames;
 use crate::shapes::{numbered, worded};
 use device_ids::WantOfMemory;
 use devnode_tree::{Node, PrintRow, Tree};
+use label_words::problem_words;
 use pnp_labels::{Problem, Stack, problem_text, res_text, state_text};
 use resource_reqs::ResList;
 use std::alloc::Global;
@@ -32,7 +33,7 @@ fn draw_holdings(alloc: Global, page: &mut Page, held: &ResList) -> Result<(), W
 {
     'held: for at in 0..held.len() {
         let text = res_text(alloc, held.get(at))?;
-        worded(page, Tag::Code, b"tree-held", &text)?;
+        page.element(Tag::Code, &[], &text)?;
     }
     Ok(())
 }
@@ -43,17 +44,19 @@ fn draw_number(alloc: Global, page: &mut Page, serial: u64) -> Result<(), WantOf
     ensures marks { OnOk result (page.new.marks ≡ page.old.marks) }
 {
     let number = numbered(alloc, b"#", serial)?;
-    worded(page, Tag::Span, b"tree-number", &number)
+    page.element(Tag::Span, &[], &number)
 }
 
-/// Its problem.
+/// Its problem, in words too.
 fn draw_problem(alloc: Global, page: &mut Page, problem: Problem) -> Result<(), WantOfMemory>
     ensures elements { OnOk result (page.new.elements ≡ page.old.elements) }
     ensures marks { OnOk result (page.new.marks ≡ page.old.marks) }
 {
     let mut text = Vec::from_slice(alloc, b"problem ")?;
     text.extend_from_slice(problem_text(problem))?;
-    worded(page, Tag::B, b"tree-problem", &text)
+    text.extend_from_slice(b": ")?;
+    text.extend_from_slice(problem_words(problem))?;
+    worded(page, Tag::Span, b"tree-problem", &text)
 }
 
 /// Its number, path, state and problem.
@@ -62,8 +65,8 @@ fn draw_head(alloc: Global, page: &mut Page, node: &Node) -> Result<(), WantOfMe
     ensures marks { OnOk result (page.new.marks ≡ page.old.marks) }
 {
     draw_number(alloc, page, node.serial)?;
-    worded(page, Tag::Code, b"tree-path", node.path.bytes())?;
-    worded(page, Tag::Span, b"tree-state", state_text(node.state))?;
+    page.element(Tag::B, &[], node.path.bytes())?;
+    page.element(Tag::Em, &[], state_text(node.state))?;
     match node.problem {
         Some(problem) => draw_problem(alloc, page, problem),
         None => Ok(()),
@@ -84,7 +87,7 @@ fn draw_drivers(
         return Ok(());
     }
     let line = driver_line(alloc, stack, names)?;
-    worded(page, Tag::Span, b"tree-drivers", &line)
+    page.element(Tag::Div, &[], &line)
 }
 
 /// Begins the line of a device, so many levels below the root.
@@ -93,13 +96,7 @@ fn open_node(alloc: Global, page: &mut Page, depth: u64) -> Result<(), WantOfMem
     ensures marks { OnOk result (page.new.marks ≡ page.old.marks) }
 {
     let style = numbered(alloc, b"--depth:", depth)?;
-    page.open(
-        Tag::Li,
-        &[
-            (Attribute::Class, b"tree-node"),
-            (Attribute::Style, style.as_slice()),
-        ],
-    )
+    page.open(Tag::Li, &[(Attribute::Style, style.as_slice())])
 }
 
 /// A device as a line of the tree, so many levels below the root.

@@ -3,7 +3,7 @@
 
 /// What the browser may run and load: the script of this sum alone.
 pub const POLICY: &[u8] =
-    b"default-src 'none'; style-src 'unsafe-inline'; script-src 'sha256-O0N9QhXv2fvDC37+1F5rGcZYmy/Wx41M4X7lvLgZ8oE='";
+    b"default-src 'none'; style-src 'unsafe-inline'; script-src 'sha256-9nCG2mi23FYKtJZOE9hZUTWDzWmcoxOPdTU2ez18Kas='";
 
 /// The script. No character of it is escaped.
 pub fn script_text() -> &'static [u8] {
@@ -11,6 +11,7 @@ pub fn script_text() -> &'static [u8] {
   `use strict`;
   const SECTIONS = [`tree`, `map`, `outstanding`, `handles`];
   const EVERY = 512;
+  const MOST = 64;
 
   // What the page has: its rows, and what is told of the state behind each.
   const rows = Array.from(document.querySelectorAll(`.grid li`));
@@ -70,7 +71,11 @@ pub fn script_text() -> &'static [u8] {
     return next(known, at);
   }, { row: -1, text: `` });
 
+  // The row that is shown, and the text that is known behind it.
+  let shown = { at: -1, known: kept[0] };
+
   function before(row) {
+    if (row - 1 === shown.at) return shown.known;
     const first = row - row % EVERY;
     let known = kept[first / EVERY];
     for (const at of Array(row - first).keys()) known = next(known, first + at);
@@ -122,23 +127,79 @@ pub fn script_text() -> &'static [u8] {
   const back = made(`button`, { type: `button`, textContent: `\u25c0`, title: `The row before: left arrow; the event before: with shift` });
   const on = made(`button`, { type: `button`, textContent: `\u25b6`, title: `The next row: right arrow; the next event: with shift` });
   const title = made(`summary`, {});
-  const boxes = SECTIONS.map(function () { return made(`pre`, { tabIndex: 0 }); });
-  document.body.append(made(`section`, { className: `stepper` }, [
+  const boxes = SECTIONS.map(function () { return { pre: made(`pre`, { tabIndex: 0 }), text: ``, lines: [], parts: [], marked: [] }; });
+  const stepper = made(`section`, { className: `stepper` }, [
     made(`div`, { className: `stepper-row` }, [back, slider, on, search, device, driver, count]),
     made(`details`, { open: true }, [title, made(`div`, { className: `stepper-boxes` }, SECTIONS.map(function (name, at) {
-      return made(`div`, {}, [made(`h2`, { textContent: name }), boxes[at]]);
+      return made(`div`, {}, [made(`h2`, { textContent: name }), boxes[at].pre]);
     }))]),
-  ]));
+  ]);
+  document.body.append(stepper);
 
-  // The lines of a section; those are marked that were not there before the row.
-  function marked(now, old) {
-    const had = new Set(old.split(`\n`));
-    const parts = [``];
-    for (const line of now === old ? [] : now.split(`\n`).slice(0, -1)) {
-      if (!had.has(line)) parts.push(made(`mark`, { textContent: line }), ``);
-      parts.push(parts.pop() + (had.has(line) ? line : ``) + `\n`);
+  function is_most(value, most) { return Math.max(value, most) === most; }
+
+  // How many lines two sections have alike at the front, and then at the back.
+  function alike(old, now) {
+    const most = Math.min(old.length, now.length);
+    let front = 0;
+    let back = 0;
+    while (front === most ? false : old[front] === now[front]) front += 1;
+    while (front + back === most ? false : old[old.length - 1 - back] === now[now.length - 1 - back]) back += 1;
+    return [front, back];
+  }
+
+  // A box has its lines in parts of no more than MOST. Only those parts are made anew in which something changes, and the one before.
+  function fill(box, now) {
+    const [front, back] = alike(box.lines, now);
+    let first = 0;
+    let begin = 0;
+    while (first === box.parts.length ? false : is_most(begin + box.parts[first].size, front)) begin += box.parts[first++].size;
+    if (first) begin -= box.parts[--first].size;
+    let last = box.parts.length;
+    let end = box.lines.length;
+    while (last === first ? false : is_most(box.lines.length - back, end - box.parts[last - 1].size)) end -= box.parts[--last].size;
+    const stop = now.length - box.lines.length + end;
+    const fresh = [];
+    for (let at = begin; at !== stop; at = Math.min(at + MOST, stop)) {
+      const some = now.slice(at, Math.min(at + MOST, stop));
+      fresh.push({ size: some.length, node: made(`div`, { textContent: some.join(`\n`) + `\n` }) });
     }
-    return now === old ? [now] : parts;
+    const next = box.parts[last] ? box.parts[last].node : null;
+    for (const part of box.parts.splice.apply(box.parts, [first, last - first].concat(fresh))) part.node.remove();
+    for (const part of fresh) box.pre.insertBefore(part.node, next);
+    box.lines = now;
+  }
+
+  // Those lines are marked that were not there before the row.
+  function mark(box, was) {
+    const [front, back] = alike(was, box.lines);
+    const had = new Set(was.slice(front, was.length - back));
+    let begin = 0;
+    for (const part of box.parts) {
+      const from = Math.max(begin, front);
+      const to = Math.min(begin + part.size, box.lines.length - back);
+      if (!is_most(to, from)) {
+        const pieces = [``];
+        box.lines.slice(begin, begin + part.size).forEach(function (line, at) {
+          const is_new = is_most(from, begin + at) ? is_most(begin + at + 1, to) : false;
+          if (is_new ? !had.has(line) : false) pieces.push(made(`mark`, { textContent: line }), `\n`);
+          else pieces.push(pieces.pop() + line + `\n`);
+        });
+        part.node.replaceChildren.apply(part.node, pieces);
+        box.marked.push(part.node);
+      }
+      begin += part.size;
+    }
+  }
+
+  // What a box shows behind a row, before which it was so.
+  function draw(box, now, was) {
+    for (const node of box.marked.splice(0)) node.textContent = node.textContent;
+    if (now !== box.text) fill(box, now.split(`\n`).slice(0, -1));
+    box.text = now;
+    if (now !== was) mark(box, was.split(`\n`).slice(0, -1));
+    const first = box.pre.querySelector(`mark`);
+    if (first) box.pre.scrollTop = first.offsetTop - box.pre.offsetTop - 32;
   }
 
   let here = 0;
@@ -151,15 +212,13 @@ pub fn script_text() -> &'static [u8] {
     rows[here].classList.remove(`here`);
     rows[row].classList.add(`here`);
     here = row;
+    shown = { at: row, known: known };
     slider.value = row + 1;
     const told = known.row === row ? `` : known.row === -1 ? ` (nothing is told of its state)` : ` (the state behind row ` + (known.row + 1) + `)`;
     title.textContent = `Behind row ` + (row + 1) + `: ` + lines[row] + told;
     SECTIONS.forEach(function (name, at) {
-      const parts = marked(now[name], known.row === row ? was[name] : now[name]);
-      boxes[at].replaceChildren.apply(boxes[at], parts);
-      const first = boxes[at].querySelector(`mark`);
-      if (first) boxes[at].scrollTop = first.offsetTop - boxes[at].offsetTop - 32;
-      boxes[at].parentNode.hidden = name === `handles` ? now[name] === `` : false;
+      draw(boxes[at], now[name], known.row === row ? was[name] : now[name]);
+      boxes[at].pre.parentNode.hidden = name === `handles` ? now[name] === `` : false;
     });
   }
 
@@ -167,7 +226,16 @@ pub fn script_text() -> &'static [u8] {
     show(row);
     const fold = rows[row].parentNode.closest(`details`);
     if (fold) fold.open = true;
-    codes[row].scrollIntoView({ block: `nearest` });
+    bring(codes[row]);
+  }
+
+  // A line that is not between the heads and what stands below comes to the middle.
+  function bring(code) {
+    const run = document.querySelector(`.run`);
+    const middle = (innerHeight - stepper.offsetHeight) / 2;
+    const away = code.getBoundingClientRect().top - middle;
+    if (run.scrollHeight !== run.clientHeight) code.scrollIntoView({ block: `nearest` });
+    else if (!is_most(Math.abs(away), Math.max(middle - 56, 0))) scrollBy(0, away);
   }
 
   // The next row that is not hidden, this way; or the next event.

@@ -44,6 +44,23 @@ fn open_at(alloc: Global, page: &mut Page, lane: u64) -> Result<(), WantOfMemory
     )
 }
 
+/// Draws what ends in a lane, with its line of the trace as its mark.
+fn draw_marked(
+    alloc: Global,
+    page: &mut Page,
+    line: &[u8],
+    lane: u64,
+    class: &[u8],
+    path: &[u8],
+) -> Result<(), WantOfMemory>
+    ensures elements { OnOk result (page.new.elements ≡ page.old.elements) }
+    ensures marks { OnOk result (page.new.marks ≡ page.old.marks ++ (Part.Arrow, line.now) ∷ []) }
+{
+    open_at(alloc, page, lane)?;
+    page.arrow(line, &[(Attribute::Class, class), (Attribute::D, path)])?;
+    page.close()
+}
+
 /// Draws the arrow of an ask, with its line of the trace as its mark.
 pub fn draw_ask(
     alloc: Global,
@@ -55,15 +72,7 @@ pub fn draw_ask(
     ensures elements { OnOk result (page.new.elements ≡ page.old.elements) }
     ensures marks { OnOk result (page.new.marks ≡ page.old.marks ++ (Part.Arrow, line.now) ∷ []) }
 {
-    open_at(alloc, page, lane)?;
-    page.arrow(
-        line,
-        &[
-            (Attribute::Class, class_of(shown)),
-            (Attribute::D, path_of(shown)),
-        ],
-    )?;
-    page.close()
+    draw_marked(alloc, page, line, lane, class_of(shown), path_of(shown))
 }
 
 /// Draws a line that is no arrow of an ask.
@@ -103,11 +112,25 @@ pub fn draw_notice(
     draw_path(alloc, page, lane, class, path_of(shown))
 }
 
-/// Draws the end of what was pended: a line from the driver's lane, with its head at the manager's.
-pub fn draw_end(alloc: Global, page: &mut Page, lane: u64, shown: Shown) -> Result<(), WantOfMemory>
+/// Draws the end of what was pended: a line from the driver's lane, which has its line of the trace as its mark, with its head at the
+/// manager's.
+pub fn draw_end(
+    alloc: Global,
+    page: &mut Page,
+    line: &[u8],
+    lane: u64,
+    shown: Shown,
+) -> Result<(), WantOfMemory>
     ensures elements { OnOk result (page.new.elements ≡ page.old.elements) }
-    ensures marks { OnOk result (page.new.marks ≡ page.old.marks) }
+    ensures marks { OnOk result (page.new.marks ≡ page.old.marks ++ (Part.Arrow, line.now) ∷ []) }
 {
-    draw_path(alloc, page, lane, class_of(shown), b"M-9999 12H0m0-5v10")?;
+    draw_marked(
+        alloc,
+        page,
+        line,
+        lane,
+        class_of(shown),
+        b"M-9999 12H0m0-5v10",
+    )?;
     draw_path(alloc, page, 0, class_of(shown), b"M9 7l-9 5l9 5")
 }

@@ -1,4 +1,7 @@
 //! The requests that drivers pended, each with the driver's lane, so that the end of a pend is drawn where it completes.
+ghost use Rattle.std.specs.Prelude.{◌≡◌, is_some};
+ghost use Rattle.view_trace.specs.Rows.{is_completion};
+
 use device_ids::{Text, WantOfMemory};
 use pnp_labels::{Deed, Label, Minor, Shown};
 use std::alloc::Global;
@@ -64,16 +67,16 @@ impl Pends {
         found
     }
 
-    /// Where a label completes what was pended: from which lane, and how. Cost: the number of requests that were pended.
-    pub fn completed(&self, label: &Label) -> Option<Completed> {
+    /// Where a label completes what was pended: from which lane, and how; from the manager's own, where nobody pended it, as in no run.
+    /// Cost: the number of requests that were pended.
+    pub fn completed(&self, label: &Label) -> Option<Completed>
+        ensures { is_some result ≡ is_completion label.now }
+    {
         match label {
-            Label::Did(Deed::Completed { path, minor, shown }) => {
-                let lane = self.lane_of(path, *minor)?;
-                Some(Completed {
-                    lane,
-                    shown: *shown,
-                })
-            }
+            Label::Did(Deed::Completed { path, minor, shown }) => Some(Completed {
+                lane: self.lane_of(path, *minor).unwrap_or(0),
+                shown: *shown,
+            }),
             _ => None,
         }
     }

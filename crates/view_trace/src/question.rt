@@ -45,21 +45,20 @@ pub fn is_event(label: &Label) -> bool {
     matches!(label, Label::Did(_) | Label::Refused { .. })
 }
 
-/// The class of a label's row.
-pub fn class_of(label: &Label) -> &'static [u8] {
+/// The class of a label's row, where it is not one of the common ones.
+pub fn class_of(label: &Label) -> Option<&'static [u8]> {
     match label {
-        Label::Did(Deed::Completed { .. }) => b"event completion",
-        Label::Did(_) => b"event",
-        Label::Refused { .. } => b"event refused",
-        Label::Asked { .. } | Label::Add { .. } => b"ask",
-        Label::State { .. } => b"state",
-        Label::Begin { .. } | Label::Commit { .. } | Label::End { .. } => b"operation",
+        Label::Did(Deed::Completed { .. }) => Some(b"event completion"),
+        Label::Did(_) => Some(b"event"),
+        Label::Refused { .. } => Some(b"event refused"),
+        Label::Asked { .. } | Label::Add { .. } => Some(b"ask"),
+        Label::Begin { .. } | Label::Commit { .. } | Label::End { .. } => Some(b"operation"),
         Label::Trouble { .. }
         | Label::NoFit { .. }
         | Label::Spent { .. }
-        | Label::Declined { .. } => b"trouble",
-        Label::Notice { .. } => b"notice",
-        _ => b"step",
+        | Label::Declined { .. } => Some(b"trouble"),
+        Label::Notice { .. } => Some(b"notice"),
+        _ => None,
     }
 }
 

@@ -1,15 +1,16 @@
 //! The rows of a trace, each beside its part of the diagram.
 ghost use Rattle.std.specs.Prelude.{◌≡◌, ◌++◌, ◌∷◌, [], OnOk};
 ghost use Rattle.pnp_labels.specs.Texts.{label_line};
-ghost use Rattle.view_trace.specs.Rows.{arrow_of, row_of, rows};
+ghost use Rattle.view_trace.specs.Rows.{arrow_of, end_of, row_of, rows};
 
 use crate::arrow::{draw_ask, draw_end, draw_notice};
 use crate::lanes::{Lanes, Party};
+use crate::line::draw_code;
 use crate::pends::Pends;
 use crate::question::{class_of, fold_class_of, is_event, line_of, question_of};
-use crate::trouble::words_of;
 use crate::wrong::WrongRows;
 use device_ids::WantOfMemory;
+use label_words::{is_wrong, label_words};
 use pnp_labels::{Label, decimal};
 use std::alloc::Global;
 use std::marker::Model;
@@ -18,6 +19,9 @@ use view_page::{Attribute, Page, Tag};
 
 /// Events that begin within so many rows are open.
 const ROWS_OPEN: u64 = 200;
+
+/// Of so many rows each says in words what its line says; of later ones those alone that tell that something went wrong.
+const ROWS_WORDED: u64 = 2000;
 
 /// What the rows have to know of those before: who has a lane, what was pended, what went wrong, how many rows there are, and whether
 /// an operation runs; and the labels of the last event, which are drawn when all of them are there. A contract sees these labels. This
@@ -42,20 +46,23 @@ impl Model for Rows {
 }
 
 /// Begins the row of this number, or the rows of an event that begin with it.
-fn open_row(alloc: Global, page: &mut Page, number: u64, class: &[u8]) -> Result<(), WantOfMemory>
+fn open_row(
+    alloc: Global,
+    page: &mut Page,
+    number: u64,
+    class: Option<&[u8]>,
+) -> Result<(), WantOfMemory>
     ensures elements { OnOk result (page.new.elements ≡ Tag.Li ∷ page.old.elements) }
     ensures marks { OnOk result (page.new.marks ≡ page.old.marks) }
 {
     let digits = decimal(alloc, number)?;
     let address = format!(in alloc; "row-{number}")?;
-    page.open(
-        Tag::Li,
-        &[
-            (Attribute::Class, class),
-            (Attribute::Id, address.as_bytes()),
-            (Attribute::Value, digits.as_bytes()),
-        ],
-    )
+    let id = (Attribute::Id, address.as_bytes());
+    let value = (Attribute::Value, digits.as_bytes());
+    match class {
+        Some(class) => page.open(Tag::Li, &[(Attribute::Class, class), id, value]),
+        None => page.open(Tag::Li, &[id, value]),
+    }
 }
 
 /// Begins the fold of an event.
@@ -73,7 +80,7 @@ fn open_fold(page: &mut Page, is_open: bool) -> Result<(), WantOfMemory>
 /// Whether one of these labels tells that something went wrong.
 fn has_wrong(labels: &[Label]) -> bool {
     for label in labels {
-        if words_of(label).is_some() {
+        if is_wrong(label) {
             return true;
         }
     }
@@ -103,10 +110,11 @@ impl Rows {
         if let Label::Begin { .. } = label {
             self.operation = true;
         }
-        match words_of(label) {
-            Some(words) => self.wrong.note(alloc, self.count, line, words),
-            None => Ok(()),
+        if is_wrong(label) {
+            self.wrong
+                .note(alloc, self.count, line, label_words(label))?;
         }
+        Ok(())
     }
 
     /// What it says of the rows after it.
@@ -124,9 +132,11 @@ impl Rows {
         alloc: Global,
         page: &mut Page,
         label: &Label,
+        line: &[u8],
     ) -> Result<(), WantOfMemory>
+        requires line { line.now ≡ label_line label.now }
         ensures elements { OnOk result (page.new.elements ≡ page.old.elements) }
-        ensures marks { OnOk result (page.new.marks ≡ page.old.marks) }
+        ensures marks { OnOk result (page.new.marks ≡ page.old.marks ++ end_of label.now) }
         ensures waiting { self.new ≡ self.old }
     {
         if let Label::Notice { client, agrees, .. } = label {
@@ -134,12 +144,12 @@ impl Rows {
             return draw_notice(alloc, page, lane, *agrees);
         }
         match self.pends.completed(label) {
-            Some(end) => draw_end(alloc, page, end.lane, end.shown),
+            Some(end) => draw_end(alloc, page, line, end.lane, end.shown),
             None => Ok(()),
         }
     }
 
-    /// Draws what a label has in the diagram: an arrow, where it tells an ask.
+    /// Draws what a label has in the diagram: an arrow, where it tells an ask, an end, where it tells a completion.
     fn draw_part(
         &mut self,
         alloc: Global,
@@ -158,7 +168,7 @@ impl Rows {
                 self.pends.note(alloc, label, lane)?;
                 draw_ask(alloc, page, line, lane, asked.shown)
             }
-            None => self.draw_other(alloc, page, label),
+            None => self.draw_other(alloc, page, label, line),
         }
     }
 
@@ -175,8 +185,13 @@ impl Rows {
     {
         let line = line_of(alloc, label)?;
         self.learn(alloc, label, &line)?;
-        let class: &[u8] = if self.operation { b"within" } else { b"" };
-        page.marked(Tag::Code, &[(Attribute::Class, class)], &line)?;
+        draw_code(
+            page,
+            label,
+            &line,
+            self.operation,
+            self.count <= ROWS_WORDED,
+        )?;
         self.draw_part(alloc, page, label, &line)?;
         self.leave(label);
         Ok(())
@@ -232,7 +247,7 @@ impl Rows {
             alloc,
             page,
             self.count.saturating_add(1),
-            fold_class_of(first),
+            Some(fold_class_of(first)),
         )?;
         open_fold(page, is_open)?;
         page.open(Tag::Summary, &[])?;

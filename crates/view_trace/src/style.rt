@@ -28,7 +28,7 @@ path.pend{stroke:var(--pend);stroke-dasharray:5 3}\n\
 path.told{stroke:var(--soft)}\n\
 path.violation{stroke:var(--violation)}\n\
 .run{container-type:inline-size;border:1px solid var(--rule);border-radius:6px}\n\
-.grid{--n:24;--number:3.25rem;--lines:36rem;--from:var(--lines);--lane:clamp(14px,(100cqw - var(--from) - 16px)/var(--n),112px);display:inline-flex;flex-direction:column;vertical-align:top}\n\
+.grid{--n:24;--stick:static;--number:3.25rem;--lines:36rem;--from:var(--lines);--lane:clamp(14px,(100cqw - var(--from) - 16px)/var(--n),112px);display:inline-flex;flex-direction:column;vertical-align:top}\n\
 .grid:has(.lanes-1){--n:1}.grid:has(.lanes-2){--n:2}.grid:has(.lanes-3){--n:3}.grid:has(.lanes-4){--n:4}.grid:has(.lanes-5){--n:5}.grid:has(.lanes-6){--n:6}.grid:has(.lanes-7){--n:7}.grid:has(.lanes-8){--n:8}.grid:has(.lanes-9){--n:9}.grid:has(.lanes-10){--n:10}.grid:has(.lanes-11){--n:11}.grid:has(.lanes-12){--n:12}.grid:has(.lanes-13){--n:13}.grid:has(.lanes-14){--n:14}.grid:has(.lanes-15){--n:15}.grid:has(.lanes-16){--n:16}.grid:has(.lanes-17){--n:17}.grid:has(.lanes-18){--n:18}.grid:has(.lanes-19){--n:19}.grid:has(.lanes-20){--n:20}.grid:has(.lanes-21){--n:21}.grid:has(.lanes-22){--n:22}.grid:has(.lanes-23){--n:23}.grid:has(.lanes-24){--n:24}.grid:has(.lanes-32){--n:32}.grid:has(.lanes-48){--n:48}.grid:has(.lanes-64){--n:64}.grid:has(.lanes-128){--n:128}.grid:has(.lanes-257){--n:257}\n\
 .run:has(.lanes-64,.lanes-128,.lanes-257){overflow:auto;max-height:90vh}\n\
 .heads{order:-1;position:sticky;top:0;z-index:2;display:flex;align-items:flex-end;background:var(--band);border-bottom:2px solid var(--rule);font-weight:600}\n\
@@ -36,25 +36,28 @@ path.violation{stroke:var(--violation)}\n\
 .heads .client{font-style:italic;font-weight:400}\n\
 .heads .lines{width:var(--from);padding:.25rem .75rem;line-height:1.5rem;writing-mode:horizontal-tb;transform:none;text-align:left}\n\
 .grid ol{list-style:none;margin:0;padding:0}\n\
-.grid li,.grid summary{position:relative;display:flex;min-height:1.5rem;scroll-margin-top:9rem;background:linear-gradient(to right,transparent calc(50% - .5px),var(--rule) calc(50% - .5px) calc(50% + .5px),transparent calc(50% + .5px)) var(--from) 0/var(--lane) 1.5rem}\n\
+.grid .ask,.grid .notice,.grid .completion,.grid .fold,.grid summary{position:relative}\n\
+.grid li,.grid summary{display:flex;min-height:1.5rem;scroll-margin-top:9rem;background:linear-gradient(to right,transparent calc(50% - .5px),var(--rule) calc(50% - .5px) calc(50% + .5px),transparent calc(50% + .5px)) var(--from) 0/var(--lane) 1.5rem}\n\
 .grid li{content-visibility:auto;contain-intrinsic-size:auto 1.5rem}\n\
 .grid .fold{display:block;content-visibility:visible;background:none}\n\
-.grid li::before{content:attr(value);flex:none;width:var(--number);padding-right:.5rem;text-align:right;color:var(--soft);font-size:.6875rem;position:sticky;left:0;z-index:1;background:var(--paper)}\n\
-.grid .fold::before{position:absolute;top:0}\n\
+.grid li::before{content:attr(value);flex:none;width:var(--number);padding-right:.5rem;text-align:right;color:var(--soft);font-size:.6875rem;position:var(--stick);left:0;z-index:1;background:var(--paper)}\n\
+.grid .fold::before{position:absolute;top:1px}\n\
 .grid summary{list-style:none;padding-left:var(--number)}\n\
 .grid summary::before{content:counter(list-item,disclosure-closed);position:absolute;left:.375rem;z-index:1;color:var(--soft)}\n\
 .grid [open] summary::before{content:counter(list-item,disclosure-open)}\n\
-.grid code{flex:none;width:calc(var(--lines) - var(--number));padding:0 .5rem;overflow-wrap:anywhere;position:sticky;left:var(--number);background:var(--paper);border-right:2px solid var(--rule);border-left:4px solid transparent}\n\
+.grid code{flex:none;width:calc(var(--lines) - var(--number));padding:0 .5rem;overflow-wrap:anywhere;position:var(--stick);left:var(--number);background:var(--paper);border-right:2px solid var(--rule);border-left:4px solid transparent}\n\
 .grid svg{position:absolute;top:0;left:calc(var(--from) + var(--lane)*(var(--k) + .5));width:1px;height:1.5rem;overflow:visible;clip-path:inset(-1px -9px -1px calc(var(--lane)*var(--k)*-1))}\n\
 .grid .within{border-left-color:var(--mark)}\n\
 .grid .event,.grid summary{border-top:1px solid var(--rule)}\n\
+:where(.grid li) code{color:var(--soft)}\n\
+.ask code{color:var(--ink)}\n\
 .event code,.grid summary code{font-weight:700;background:var(--band);color:var(--ink)}\n\
 .grid li:target code,.grid li:target summary code{background:var(--mark);color:var(--paper)}\n\
 .grid .fold:target li code{background:var(--paper);color:inherit}\n\
 .refused code{color:var(--fail)}\n\
 .operation code{font-weight:700;color:var(--mark)}\n\
 .trouble code{color:var(--fail);font-weight:700}\n\
-.state code,.step code,.notice code{color:var(--soft)}\n\
+.notice code{color:var(--soft)}\n\
 .notice code{font-style:italic}\n\
 pre{overflow-x:auto;padding:.75rem;background:var(--band);border-radius:6px;margin:0}\n\
 summary{cursor:pointer}\n\
@@ -65,6 +68,7 @@ summary{cursor:pointer}\n\
 @media (max-width:899px){.grid{--lines:20rem}}\n\
 @media (min-width:900px){.grid:has(.lanes-1,.lanes-2,.lanes-3,.lanes-4,.lanes-5){.heads span{writing-mode:horizontal-tb;transform:none;line-height:1.5rem;text-align:center;white-space:normal;overflow-wrap:anywhere}.heads .lines{text-align:left}}}\n\
 @media (max-width:699px){body{padding:.5rem}.grid{--from:0px;--number:2.75rem;--lane:clamp(14px,(100cqw - 2px)/var(--n),400px);display:flex}.grid:has(.lanes-32,.lanes-48,.lanes-64,.lanes-128,.lanes-257){display:inline-flex;min-width:100%}.run:has(.lanes-32,.lanes-48){overflow:auto;max-height:90vh}.heads .lines{display:none}.grid li,.grid summary{flex-wrap:wrap}.grid code{width:calc(100% - var(--number));border-right:0}.grid .ask,.grid .notice,.grid .event.completion,.grid .completion summary{padding-bottom:1.5rem}.grid svg{top:auto;bottom:0}}\n\
+@media screen{.grid:has(.lanes-64,.lanes-128,.lanes-257){--stick:sticky}}\n\
 @page{size:landscape;margin:10mm}\n\
-@media print{:root{color-scheme:light}html{font-size:11px}body{padding:0}*{print-color-adjust:exact}.run{border:0;overflow:visible;max-height:none}.grid{display:table;--lines:31rem;--from:var(--lines);--lane:clamp(2px,(100cqw - var(--from) - 16px)/var(--n),112px)}.heads{display:table-header-group;break-inside:avoid;position:static;font-size:0}.heads span{display:inline-block;vertical-align:bottom;font-size:.75rem;padding:.75rem 0}.grid ol{display:table-row-group}.grid svg{transform:scale(.6875);transform-origin:0 0;clip-path:inset(-1px -9px -1px calc(var(--lane)*var(--k)/-.6875))}.grid ol ol{display:block}.grid li,.grid summary{background-image:linear-gradient(to right,var(--rule) 1px,transparent 1px);background-position:calc(var(--from) + var(--lane)/2) 0}.grid .fold{background:none}.grid li{content-visibility:visible;break-inside:avoid}.grid .fold{break-inside:auto}.grid code,.grid li::before{position:static}h2,.drawing-title,.map-kind{break-after:avoid}.legend{margin:.25rem 0}}\n"
+@media print{:root{color-scheme:light}html{font-size:11px}body{padding:0}*{print-color-adjust:exact}.run{border:0;overflow:visible;max-height:none}.grid{display:table;--lines:31rem;--from:var(--lines);--lane:clamp(2px,(100cqw - var(--from) - 16px)/var(--n),112px)}.heads{display:table-header-group;break-inside:avoid;position:static;font-size:0}.heads span{display:inline-block;vertical-align:bottom;font-size:.75rem;padding:.75rem 0}.grid ol{display:table-row-group}.grid svg{transform:scale(.6875);transform-origin:0 0;clip-path:inset(-1px -9px -1px calc(var(--lane)*var(--k)/-.6875))}.grid ol ol{display:block}.grid li,.grid summary{background-image:linear-gradient(to right,var(--rule) 1px,transparent 1px);background-position:calc(var(--from) + var(--lane)/2) 0}.grid .fold{background:none}.grid li{content-visibility:visible;break-inside:avoid}.grid .fold{break-inside:auto}h2,.drawing-title,.map-kind{break-after:avoid}.legend{margin:.25rem 0}}\n"
 }

@@ -1,26 +1,9 @@
 //! What a problem means in words, and notes on a path that is disabled and on a driver that did not add a device.
 use device_ids::{Text, WantOfMemory};
+use label_words::problem_words;
 use pnp_labels::{Problem, problem_text};
 use std::alloc::Global;
 use why_facts::{FailedAdd, Lines};
-
-/// What a problem means.
-fn problem_words(problem: Problem) -> &'static [u8] {
-    match problem {
-        Problem::FailedStart => b"its drivers failed START_DEVICE",
-        Problem::NormalConflict =>
-            b"nothing fits for it, even if all devices that agree to stop may move",
-        Problem::Disabled => b"its path is disabled",
-        Problem::FailedInstall => b"no INF has a driver for it",
-        Problem::FailedAdd => b"a driver did not add it",
-        Problem::LoadFailed => b"a driver that the INF names is not there",
-        Problem::HeldForEject => b"it was related to a device that was ejected, and stays",
-        Problem::Budget =>
-            b"the budget of a search was spent, so it is not known whether anything fits",
-        Problem::Held =>
-            b"it lost its drivers with another device, or when its last handle was closed, and stays",
-    }
-}
 
 /// The first line of each note on a problem: what it means.
 pub fn tell_meaning(
