@@ -1,0 +1,6 @@
+mod Twins
+mod Asked
+mod Happenings
+mod Loose
+mod Fronts
+pub mod TwoRuns
