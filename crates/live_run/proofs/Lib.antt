@@ -1,3 +1,3 @@
 mod Faults
-mod Making
+mod Talking
 mod Replying
