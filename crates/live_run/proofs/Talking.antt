@@ -16,7 +16,7 @@ use Rattle.live_run.specs.Talks.{HasAnswered, HearsLine, HearsNone, IsSaid, IsTu
 use Rattle.live_run.specs.declared.stop.DriveError.{DriveError}
 use Rattle.live_run.specs.declared.stop.Stop.{Stop}
 
-pub talk_of : ℕ → Option Past → Option Text → Option Text → Told
+abbrev pub talk_of : ℕ → Option Past → Option Text → Option Text → Told
 talk_of asks past taken answers = record { asks = asks; past = past; taken = taken; answers = answers }
 
 -- One text and then another -------------------------------------------------------------------

@@ -24,4 +24,4 @@ returns-clause-turn g c =
     let past' = g.P.Peer.past c.turn.new.peer in
     let taken' = g.P.Peer.taken c.turn.new.peer in
     subst (λ (t : Told). IsTurn c.turn.result t (told c.turn.new.self past' taken' (g.P.Peer.answers c.turn.new.peer)) c.turn.new.self.line.items past' taken')
-    (pushed_ask c.args.words.now c.args.self.now.asks c.in-Some.asks c.args.self.now.said.items c.push_ask.new.out.items past taken answers c.in-Some.ensures c.in_ok-push_ask.ensures) c.turn.ensures.turn
+    (pushed_ask c.args.words.now c.args.self.now.asks c.in-Some.asks c.args.self.now.said.items c.push_ask.new.out.items past taken answers c.in-Some.ensures.1 c.in_ok-push_ask.ensures) c.turn.ensures.turn
