@@ -135,12 +135,12 @@ on_err (Ok x) P p = tt
 on_err (Err e) P p = p
 
 pub turn_fails : (r : Result (Unit {0}) Stop) (e : DriveError) (old new : Told) (line : Text) (past : Option Past) (taken : Option Text) → IsErr r × IsErrAnd r (λ f. f ≡ Stop.Fault e) → IsFront old past taken → IsTurn r old new line past taken
-turn_fails (Ok x) e old new line past taken h front = absurd h.1
-turn_fails (Err f) e old new line past taken h front = subst (λ (s : Stop). IsTurn (Err s) old new line past taken) (sym h.1) front
+turn_fails (Ok x) e old new line past taken h begun = absurd h.1
+turn_fails (Err f) e old new line past taken h begun = subst (λ (s : Stop). IsTurn (Err s) old new line past taken) (sym h.1) begun
 
 pub answer_fails : (r : Result Answer Stop) (e : DriveError) (may_pend : Bool) (driver : Text) (old new : Told) (past : Option Past) (taken : Option Text) → IsErr r × IsErrAnd r (λ f. f ≡ Stop.Fault e) → IsFront old past taken → HasAnswered r may_pend driver old new past taken
-answer_fails (Ok x) e may_pend driver old new past taken h front = absurd h.1
-answer_fails (Err f) e may_pend driver old new past taken h front = subst (λ (s : Stop). HasAnswered (Err s) may_pend driver old new past taken) (sym h.1) front
+answer_fails (Ok x) e may_pend driver old new past taken h begun = absurd h.1
+answer_fails (Err f) e may_pend driver old new past taken h begun = subst (λ (s : Stop). HasAnswered (Err s) may_pend driver old new past taken) (sym h.1) begun
 
 -- An ask -----------------------------------------------------------------------------------------
 

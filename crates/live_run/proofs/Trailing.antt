@@ -1,0 +1,28 @@
+-- What the trail of a run has, found by its place.
+use Rattle.std.proofs.Common.{ℕ, ◌≡◌, Bool, true, false, List, [], ◌∷◌, Option, Some, None, get_or, map, refl, sym, ap, ◌∙◌}
+use Rattle.std.specs.Prelude.{cond, option_map}
+use Rattle.std.specs.List.{find, position}
+use Rattle.pnp_model.proofs.Keyed.{find_from_none, find_from_position}
+use Rattle.pnp_labels.specs.Texts.{Text}
+use Rattle.pnp_labels.specs.declared.words.Minor.{Minor}
+use Rattle.live_model.specs.Trails.{is_request}
+use Rattle.live_run.specs.Views.{waiting_of}
+use Rattle.live_run.specs.declared.trail.Waiting.{Waiting}
+
+seen_here : {A B : Type 0} (f : A → B) (x : A) (b : Bool) (o : Option B) (p : Option A) → o ≡ option_map f p → cond b (Some (f x)) o ≡ option_map f (cond b (Some x) p)
+seen_here f x true o p is = refl
+seen_here f x false o p is = is
+
+-- what is found of the views is the view of what is found
+pub find_seen : {A B : Type 0} (f : A → B) (p : B → Bool) (xs : List A) → find p (map f xs) ≡ option_map f (find (λ x. p (f x)) xs)
+find_seen f p [] = refl
+find_seen f p (x ∷ xs) = seen_here f x (p (f x)) (find p (map f xs)) (find (λ y. p (f y)) xs) (find_seen f p xs)
+
+pub no_request : (path : Text) (minor : Minor) (ws : List Waiting) → position (λ w. is_request path minor (waiting_of w)) ws ≡ None → find (is_request path minor) (map waiting_of ws) ≡ None
+no_request path minor ws none = find_seen waiting_of (is_request path minor) ws ∙ ap (option_map waiting_of) (find_from_none (λ w. is_request path minor (waiting_of w)) ws none)
+
+pub request_found : (path : Text) (minor : Minor) (ws : List Waiting) (i : ℕ) (w : Waiting) → position (λ w. is_request path minor (waiting_of w)) ws ≡ Some i → w ≡ get_or ws i w → find (is_request path minor) (map waiting_of ws) ≡ Some (waiting_of w)
+request_found path minor ws i w at is =
+    find_seen waiting_of (is_request path minor) ws
+    ∙ ap (option_map waiting_of) (find_from_position (λ w. is_request path minor (waiting_of w)) ws i w at)
+    ∙ ap (λ (x : Waiting). Some (waiting_of x)) (sym is)
