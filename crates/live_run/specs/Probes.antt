@@ -13,8 +13,9 @@ use Rattle.live_run.specs.declared.stop.Stop.{Stop}
 
 -- where the line is an answer: which rules are broken is to be said
 abbrev pub TakesProbed : Bool → Option Reply → ℕ → Text → DevState → Text → Text → Type 0
-TakesProbed true reply ask driver state old new = (r : Reply) × (reply ≡ Some r) × (new ≡ old ++ probe_lines ask driver state r.answer r.tags)
-TakesProbed false reply ask driver state old new = (reply ≡ None) × (new ≡ old)
+TakesProbed true (Some reply) ask driver state old new = new ≡ old ++ probe_lines ask driver state reply.answer reply.tags
+TakesProbed false None ask driver state old new = new ≡ old
+TakesProbed _ _ ask driver state old new = ⊥
 
 -- it answers
 pub record HearsProbed (driver : Text) (state : DevState) (old new : Told) : Type 0 where

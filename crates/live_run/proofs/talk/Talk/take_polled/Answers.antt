@@ -1,4 +1,0 @@
-use Rattle.live_run.proofs.talk.Talk.take_polled.Goals as goal
-
-pub returns-clause-takes : goal.returns-clause-takes
-returns-clause-takes c = ?
