@@ -1,12 +1,14 @@
 -- What the trail of a run has, found by its place.
-use Rattle.std.proofs.Common.{ℕ, ◌≡◌, Bool, true, false, List, [], ◌∷◌, Option, Some, None, get_or, map, refl, sym, ap, ◌∙◌}
-use Rattle.std.specs.Prelude.{cond, option_map}
+use Rattle.std.proofs.Common.{ℕ, suc, ◌≡◌, length, Bool, true, false, List, [], ◌∷◌, Option, Some, None, get_or, map, refl, sym, ap, ◌∙◌, subst}
+use Rattle.std.specs.Prelude.{◌==◌, cond, if◌then◌else◌, not, option_map}
 use Rattle.std.specs.List.{find, position}
 use Rattle.pnp_model.proofs.Keyed.{find_from_none, find_from_position}
+use Rattle.pnp_model.specs.Keyed.{without_first}
 use Rattle.pnp_labels.specs.Texts.{Text}
 use Rattle.pnp_labels.specs.declared.words.Minor.{Minor}
+use Rattle.live_model.specs.Trails as trails
 use Rattle.live_model.specs.Trails.{is_request}
-use Rattle.live_run.specs.Views.{waiting_of}
+use Rattle.live_run.specs.Views.{IfWaits, waiting_of}
 use Rattle.live_run.specs.declared.trail.Waiting.{Waiting}
 
 seen_here : {A B : Type 0} (f : A → B) (x : A) (b : Bool) (o : Option B) (p : Option A) → o ≡ option_map f p → cond b (Some (f x)) o ≡ option_map f (cond b (Some x) p)
@@ -26,3 +28,19 @@ request_found path minor ws i w at is =
     find_seen waiting_of (is_request path minor) ws
     ∙ ap (option_map waiting_of) (find_from_position (λ w. is_request path minor (waiting_of w)) ws i w at)
     ∙ ap (λ (x : Waiting). Some (waiting_of x)) (sym is)
+
+kept_here : {A : Type 0} (b : Bool) (x : A) (xs ys : List A) (o : Option A) → cond b (Some x) o ≡ None → (o ≡ None → xs ≡ ys) → x ∷ xs ≡ (if b then xs else x ∷ ys)
+kept_here true x xs ys o none rest = absurd (cc)
+kept_here false x xs ys o none rest = ap (λ zs. x ∷ zs) (rest none)
+
+-- where none passes all stay
+pub kept_all : {A : Type 0} (test : A → Bool) (xs : List A) → find test xs ≡ None → xs ≡ without_first test xs
+kept_all test [] none = refl
+kept_all test (x ∷ xs) none = kept_here (test x) x xs (without_first test xs) (find test xs) none (kept_all test xs)
+
+nonzero : (n : ℕ) → (suc n == 0) ≡ false
+nonzero n = refl
+
+pub waits_so : (b : Bool) (attached : List trails.Attached) (ws : List Waiting) → b ≡ (length ws == 0) → IfWaits (not b) (record { attached = attached; waiting = map waiting_of ws })
+waits_so b attached [] is = subst (λ (b : Bool). IfWaits (not b) (record { attached = attached; waiting = [] })) (sym is) refl
+waits_so b attached (w ∷ ws) is = subst (λ (b : Bool). IfWaits (not b) (record { attached = attached; waiting = map waiting_of (w ∷ ws) })) (sym (is ∙ nonzero (length ws))) (waiting_of w, map waiting_of ws, refl)

@@ -1,0 +1,7 @@
+use Rattle.std.proofs.Common.{map}
+use Rattle.live_run.specs.Views.{attached_of}
+use Rattle.live_run.proofs.Trailing.{waits_so}
+use Rattle.live_run.proofs.trail.Trail.waits.Goals as goal
+
+pub returns : goal.returns
+returns c = waits_so c.is_empty.result (map attached_of c.args.self.now.attached.items) c.args.self.now.waiting.items c.is_empty.ensures
