@@ -1,7 +1,8 @@
 -- What the trail of a run has, found by its place.
-use Rattle.std.proofs.Common.{ℕ, suc, ◌≡◌, length, Bool, true, false, List, [], ◌∷◌, Option, Some, None, get_or, map, refl, sym, ap, ◌∙◌, subst}
+use Rattle.std.proofs.Common.{arith, ℕ, suc, ◌≡◌, length, Bool, true, false, List, [], ◌∷◌, Option, Some, None, get_or, map, refl, sym, ap, ◌∙◌, subst}
 use Rattle.std.specs.Prelude.{◌==◌, cond, if◌then◌else◌, not, option_map}
-use Rattle.std.specs.List.{find, position}
+use Rattle.std.specs.List.{filter, find, position}
+use Rattle.std.proofs.lemmas.Bool.Decides.{nat_tests}
 use Rattle.pnp_model.proofs.Keyed.{find_from_none, find_from_position}
 use Rattle.pnp_model.specs.Keyed.{without_first}
 use Rattle.pnp_labels.specs.Texts.{Text}
@@ -39,8 +40,24 @@ kept_all test [] none = refl
 kept_all test (x ∷ xs) none = kept_here (test x) x xs (without_first test xs) (find test xs) none (kept_all test xs)
 
 nonzero : (n : ℕ) → (suc n == 0) ≡ false
-nonzero n = refl
+nonzero n = grind (arith, nat_tests)
 
 pub waits_so : (b : Bool) (attached : List trails.Attached) (ws : List Waiting) → b ≡ (length ws == 0) → IfWaits (not b) (record { attached = attached; waiting = map waiting_of ws })
 waits_so b attached [] is = subst (λ (b : Bool). IfWaits (not b) (record { attached = attached; waiting = [] })) (sym is) refl
 waits_so b attached (w ∷ ws) is = subst (λ (b : Bool). IfWaits (not b) (record { attached = attached; waiting = map waiting_of (w ∷ ws) })) (sym (is ∙ nonzero (length ws))) (waiting_of w, map waiting_of ws, refl)
+
+filter_here : {A B : Type 0} (f : A → B) (x : A) (b : Bool) (xs : List A) (ys : List B) → map f xs ≡ ys → map f (cond b (x ∷ xs) xs) ≡ cond b (f x ∷ ys) ys
+filter_here f x true xs ys is = ap (λ zs. f x ∷ zs) is
+filter_here f x false xs ys is = is
+
+pub filter_seen : {A B : Type 0} (f : A → B) (p : B → Bool) (xs : List A) → map f (filter (λ x. p (f x)) xs) ≡ filter p (map f xs)
+filter_seen f p [] = refl
+filter_seen f p (x ∷ xs) = filter_here f x (p (f x)) (filter (λ y. p (f y)) xs) (filter p (map f xs)) (filter_seen f p xs)
+
+without_here : {A B : Type 0} (f : A → B) (x : A) (b : Bool) (xs zs : List A) (ys : List B) → map f zs ≡ ys → map f (if b then xs else x ∷ zs) ≡ (if b then map f xs else f x ∷ ys)
+without_here f x true xs zs ys is = refl
+without_here f x false xs zs ys is = ap (λ ws. f x ∷ ws) is
+
+pub without_seen : {A B : Type 0} (f : A → B) (p : B → Bool) (xs : List A) → map f (without_first (λ x. p (f x)) xs) ≡ without_first p (map f xs)
+without_seen f p [] = refl
+without_seen f p (x ∷ xs) = without_here f x (p (f x)) xs (without_first (λ y. p (f y)) xs) (without_first p (map f xs)) (without_seen f p xs)
