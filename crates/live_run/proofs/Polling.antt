@@ -25,18 +25,20 @@ poll_fails (Err f) e t old new past taken h begun = subst (λ (s : Stop). HasPol
 pub completed : (event : Event) (t : Trail) (old : Told) (asks asks' : ℕ) (said said' line : Text) (past : Option Past) (taken answers : Option Text)
     → HearsLine old (told_by asks said past taken answers) line past taken → TakesPolled (Polled.Completes event) (polled_in asks line) asks t said said' → asks' ≡ asks
     → HasPolled (Ok (Some event)) t old (told_by asks' said' past taken answers) past taken
-completed event t old asks asks' said said' line past taken answers heard (c, is, done) same =
-    (record {
-      line = line;
-      rest = answers;
-      c = c;
-      at = done.at;
-      comes = heard.comes;
-      is = subst (λ (n : ℕ). polled_in n line ≡ Some (completes c)) (asks_stay old asks said line past taken answers heard) is;
-      waits = done.waits;
-      happens = done.happens;
-      talk = told_noted (λ n. done_line n done.at.driver ++ broke_lines n done.at.driver c.tags) old asks asks' said said' line past taken answers heard same done.said;
-    }, heard.front)
+completed event t old asks asks' said said' line past taken answers heard (c, is, done) same = (
+  record {
+    line = line;
+    rest = answers;
+    c = c;
+    at = done.at;
+    comes = heard.comes;
+    is = subst (λ (n : ℕ). polled_in n line ≡ Some (completes c)) (asks_stay old asks said line past taken answers heard) is;
+    waits = done.waits;
+    happens = done.happens;
+    talk = told_noted (λ n. done_line n done.at.driver ++ broke_lines n done.at.driver c.tags) old asks asks' said said' line past taken answers heard same done.said;
+  },
+  heard.front,
+)
 
 pub probe_fails : (r : Result (Unit {0}) Stop) (e : DriveError) (driver : Text) (state : DevState) (old new : Told) (past : Option Past) (taken : Option Text) → IsErr r × IsErrAnd r (λ f. f ≡ Stop.Fault e) → IsFront old past taken → HasProbed r driver state old new past taken
 probe_fails (Ok x) e driver state old new past taken h begun = absurd h.1

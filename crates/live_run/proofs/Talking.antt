@@ -181,16 +181,18 @@ replied_by : (o : Option Reply) (answer : Answer) (may_pend : Bool) (driver : Te
     → reply_in asks may_pend line ≡ o → HearsLine old (told_by asks said past taken answers) line past taken → TakesReply (Some answer) o asks driver said said' → asks' ≡ asks
     → HasAnswered (Ok answer) may_pend driver old (told_by asks' said' past taken answers) past taken
 replied_by None answer may_pend driver old asks asks' said said' line past taken answers is heard takes same = absurd takes
-replied_by (Some reply) answer may_pend driver old asks asks' said said' line past taken answers is heard takes same =
-    (record {
-      line = line;
-      rest = answers;
-      reply = reply;
-      comes = heard.comes;
-      is = subst (λ (n : ℕ). reply_in n may_pend line ≡ Some reply) (asks_stay old asks said line past taken answers heard) is;
-      gives = takes.0;
-      talk = told_noted (λ n. broke_lines n driver reply.tags) old asks asks' said said' line past taken answers heard same takes.1;
-    }, heard.front)
+replied_by (Some reply) answer may_pend driver old asks asks' said said' line past taken answers is heard takes same = (
+  record {
+    line = line;
+    rest = answers;
+    reply = reply;
+    comes = heard.comes;
+    is = subst (λ (n : ℕ). reply_in n may_pend line ≡ Some reply) (asks_stay old asks said line past taken answers heard) is;
+    gives = takes.0;
+    talk = told_noted (λ n. broke_lines n driver reply.tags) old asks asks' said said' line past taken answers heard same takes.1;
+  },
+  heard.front,
+)
 
 pub replied : (answer : Answer) (may_pend : Bool) (driver : Text) (old : Told) (asks asks' : ℕ) (said said' line : Text) (past : Option Past) (taken answers : Option Text)
     → HearsLine old (told_by asks said past taken answers) line past taken → TakesReply (Some answer) (reply_in asks may_pend line) asks driver said said' → asks' ≡ asks
