@@ -1,14 +1,13 @@
 ghost use Rattle.std.specs.Prelude.{◌≡◌, ◌<◌, ◌≤◌, ◌+◌, ◌^◌, true, IfOk, OnOk};
 ghost use Rattle.pnp_machine.specs.Machines.{HasFewIds};
 
-use device_ids::{DeviceId, IdList, InstancePath, Text, TextList, WantOfMemory};
+use crate::device::{arrival, naming, one_line, path};
+use device_ids::{Text, WantOfMemory};
 use driver_rack::{Drivers, Rack, Scripted};
-use inf_reader::{Inf, ModelLine, ModelLines};
-use pnp_labels::{Answer, AskWhat, DriverKind, Event, Label, Minor, Rule, label_line};
+use pnp_labels::{Answer, AskWhat, Event, Label, Minor, Rule, label_line};
 use pnp_machine::{Manager, Moved};
-use resource_reqs::Reqs;
 use rows_told::same;
-use std::alloc::{AllocError, Global};
+use std::alloc::Global;
 use std::test::Fail;
 
 /// Whether an event has at most 64 IDs of each sort.
@@ -70,57 +69,6 @@ fn settle<R: Drivers>(
         }
     }
     Ok(())
-}
-
-/// An INF whose one line gives the device a service.
-fn one_line(alloc: Global) -> Result<Inf, WantOfMemory> {
-    let mut ids = TextList::new(alloc);
-    ids.push(Text::make(alloc, b"OWN\\DEV")?)?;
-    let mut lines = ModelLines::new(alloc);
-    lines.push(ModelLine {
-        line: 1,
-        ids,
-        score: 255,
-        service: Some(Text::make(alloc, b"serial")?),
-        lower: TextList::new(alloc),
-        upper: TextList::new(alloc),
-    })?;
-    Ok(Inf {
-        date: 20010101,
-        version: 0,
-        lines,
-    })
-}
-
-/// A path of the machine.
-fn path(alloc: Global, bytes: &[u8]) -> Result<InstancePath, WantOfMemory> {
-    InstancePath::read(alloc, bytes).map_err(|_| AllocError)
-}
-
-/// One ID.
-fn one_id(alloc: Global) -> Result<IdList, WantOfMemory> {
-    let id = DeviceId::read(alloc, b"OWN\\DEV").map_err(|_| AllocError)?;
-    let mut ids = IdList::new(alloc);
-    ids.push(id)?;
-    Ok(ids)
-}
-
-/// A device with that ID arrives below the root.
-fn arrival(alloc: Global) -> Result<Event, WantOfMemory> {
-    Ok(Event::Plug {
-        parent: path(alloc, b"HTREE\\ROOT\\0")?,
-        path: path(alloc, b"OWN\\DEV\\1")?,
-        hw: one_id(alloc)?,
-        compat: IdList::new(alloc),
-        reqs: Reqs::new(alloc),
-    })
-}
-
-/// The driver gets the name of that service.
-fn naming(alloc: Global) -> Result<Event, WantOfMemory> {
-    let name = Text::make(alloc, b"serial")?;
-    let kind = DriverKind::Scripted;
-    Ok(Event::Name { name, kind })
 }
 
 /// The driver of that service answers a request so once.

@@ -10,8 +10,6 @@ mod files;
 #[cfg(test)]
 mod handles;
 #[cfg(test)]
-mod lines;
-#[cfg(test)]
 mod pages;
 #[cfg(test)]
 mod places;

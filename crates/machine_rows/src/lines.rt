@@ -1,36 +1,13 @@
-ghost use Rattle.std.specs.Prelude.{◌≡◌, ◌≤◌, ◌+◌, true, codes, IfOk, Ok, None};
-ghost use Rattle.pnp_labels.specs.declared.event.Event.TheVariants.{Name};
-ghost use Rattle.pnp_labels.specs.declared.words.DriverKind.TheVariants.{Scripted};
+ghost use Rattle.std.specs.Prelude.{◌≡◌, ◌≤◌, ◌+◌, true, IfOk, Ok, None};
 
-use device_ids::{DeviceId, IdList, InstancePath, Text, TextList, WantOfMemory};
+use crate::device::{arrival, naming, one_line};
+use device_ids::WantOfMemory;
 use free_run::FreeRun;
-use inf_reader::{Inf, ModelLine, ModelLines};
 use line_run::LineRun;
-use pnp_labels::{DriverKind, Event};
-use resource_reqs::Reqs;
-use rows_told::{must, same};
-use std::alloc::{AllocError, Global};
+use pnp_labels::DriverKind;
+use rows_told::same;
+use std::alloc::Global;
 use std::test::Fail;
-
-/// An INF whose one line gives the device a service.
-fn one_line(alloc: Global) -> Result<Inf, WantOfMemory> {
-    let mut ids = TextList::new(alloc);
-    ids.push(Text::make(alloc, b"OWN\\DEV")?)?;
-    let mut lines = ModelLines::new(alloc);
-    lines.push(ModelLine {
-        line: 1,
-        ids,
-        score: 255,
-        service: Some(Text::make(alloc, b"serial")?),
-        lower: TextList::new(alloc),
-        upper: TextList::new(alloc),
-    })?;
-    Ok(Inf {
-        date: 20010101,
-        version: 0,
-        lines,
-    })
-}
 
 /// A run of one driver and that INF, to which nothing happened.
 fn one_run(alloc: Global) -> Result<LineRun, WantOfMemory>
@@ -42,38 +19,14 @@ fn one_run(alloc: Global) -> Result<LineRun, WantOfMemory>
     Ok(LineRun::new(run))
 }
 
-/// The driver gets the name of that service.
-fn naming(alloc: Global) -> Result<Event, WantOfMemory>
-    ensures { IfOk result (λ event. event ≡ Name (codes "serial") Scripted) }
-{
-    let name = Text::make(alloc, b"serial")?;
-    let kind = DriverKind::Scripted;
-    Ok(Event::Name { name, kind })
-}
-
-/// A path of the machine.
-fn path(alloc: Global, bytes: &[u8]) -> Result<InstancePath, WantOfMemory> {
-    InstancePath::read(alloc, bytes).map_err(|_| AllocError)
-}
-
-/// A device arrives below the root, of one ID and without requirements.
+/// The device arrives.
 fn arrives(alloc: Global, run: &mut LineRun, line: &[u8]) -> Result<bool, WantOfMemory>
     requires offered { run.old.offered ≡ None }
     requires events { run.old.run.events ≤ 4 }
     ensures offered { result ≡ Ok true → run.new.offered ≡ None }
     ensures events { run.new.run.events ≤ run.old.run.events + 1 }
 {
-    let id = DeviceId::read(alloc, b"OWN\\DEV").map_err(|_| AllocError)?;
-    let mut hw = IdList::new(alloc);
-    hw.push(id)?;
-    let event = Event::Plug {
-        parent: path(alloc, b"HTREE\\ROOT\\0")?,
-        path: path(alloc, b"OWN\\DEV\\1")?,
-        hw,
-        compat: IdList::new(alloc),
-        reqs: Reqs::new(alloc),
-    };
-    run.try_line(alloc, Some(event), line)
+    run.try_line(alloc, Some(arrival(alloc)?), line)
 }
 
 /// The driver gets its name: the line of another name is tried first, and is not taken.
@@ -89,14 +42,17 @@ fn is_named(alloc: Global, run: &mut LineRun) -> Result<bool, WantOfMemory>
     run.try_line(alloc, Some(naming(alloc)?), b"event driver serial\n")
 }
 
-/// Whether the line is taken where no event is looked at.
+/// Whether the line is taken where no event is looked at. Where memory is refused the run is as before, and the line is tried once more.
 fn takes(alloc: Global, run: &mut LineRun, line: &[u8]) -> Result<bool, WantOfMemory>
     requires offered { run.old.offered ≡ None }
     requires events { run.old.run.events ≤ 4 }
     ensures offered { run.new.offered ≡ None }
     ensures events { run.new.run.events ≡ run.old.run.events }
 {
-    run.try_line(alloc, None, line)
+    match run.try_line(alloc, None, line) {
+        Ok(taken) => Ok(taken),
+        Err(_) => run.try_line(alloc, None, line),
+    }
 }
 
 /// The line is taken, and the one before it is not: the run is as before it.
@@ -180,26 +136,30 @@ fn story(alloc: Global, run: &mut LineRun) -> Result<bool, WantOfMemory>
     Ok(installed && asked && bare)
 }
 
-/// The end of the output, where the run is quiet.
-fn end(alloc: Global, run: &LineRun) -> Result<Vec<u8>, WantOfMemory>
-    requires { run.now.offered ≡ None }
-{
-    if run.is_quiet() {
+/// The end of the output, where each right line was taken, no wrong one, and the run is quiet; else nothing.
+fn told(alloc: Global) -> Result<Vec<u8>, WantOfMemory> {
+    let mut run = one_run(alloc)?;
+    if story(alloc, &mut run)? && run.is_quiet() {
         run.ending(alloc)
     } else {
         Ok(Vec::new(alloc))
     }
 }
 
+/// The same, made anew where memory was refused outside a line that no event is looked at for.
+fn told_again(alloc: Global) -> Result<Vec<u8>, WantOfMemory> {
+    match told(alloc) {
+        Ok(out) => Ok(out),
+        Err(_) => told(alloc),
+    }
+}
+
 #[test]
 fn a_line_that_is_not_taken_leaves_the_run(rt: HostRuntime) -> Result<(), Fail> {
-    let alloc = rt.alloc();
-    let mut run = one_run(alloc)?;
-    let taken = story(alloc, &mut run)?;
-    must(taken, "each right line, and no wrong one")?;
+    let out = told_again(rt.alloc())?;
     let expected = b"tree\n\
         0 HTREE\\ROOT\\0 Started\n 1 OWN\\DEV\\1 NoStack problem 10\n\
         map\n\
         outstanding\n";
-    same(&end(alloc, &run)?, expected)
+    same(&out, expected)
 }
