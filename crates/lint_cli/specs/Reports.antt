@@ -65,14 +65,16 @@ opens_inf (byte ∷ script) = if is_space byte then opens_inf script else byte =
 abbrev pub is_marked : List ℕ → Bool
 is_marked script = bytes_eq (take 2 script) (0xFF ∷ 0xFE ∷ []) || bytes_eq (take 2 script) (0xFE ∷ 0xFF ∷ [])
 
--- what is told of an INF that is given as the script
-abbrev pub hint_text : Text → List ℕ → Text
-hint_text file script = if is_marked script || opens_inf script
-    then warning_head file 1 ++ codes "this looks like an INF; the script comes first, and behind --inf there is none\n" else []
+abbrev pub is_inf : List ℕ → Bool
+is_inf script = is_marked script || opens_inf script
 
--- what is written of the script: its bad lines, and behind them the hint
+-- what is told of an INF that is given as the script
+abbrev pub misplaced_text : Text → Text
+misplaced_text file = error_head file 1 ++ codes "this begins as an INF does: the script comes first, its comments begin with #, and behind --inf there is none\n"
+
+-- what is written of the script: its bad lines; of an INF in its place no line, but that it is one
 abbrev pub script_text : Text → List ℕ → Text
-script_text file script = bad_texts file script ++ hint_text file script
+script_text file script = if is_inf script then misplaced_text file else bad_texts file script
 
 abbrev pub error_text : InfError → Text
 error_text errors.NoSignature = codes "[Version] has no Signature of $Windows NT$ or $CHICAGO$"

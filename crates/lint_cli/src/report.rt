@@ -2,11 +2,11 @@
 ghost use Rattle.std.specs.Prelude.{◌≡◌, ◌++◌, IfOk, OnOk};
 ghost use Rattle.script_reader.specs.Faults.{seen};
 ghost use Rattle.script_lint.specs.Script.{told};
-ghost use Rattle.lint_cli.specs.Reports.{fault_words, fault_text, bad_text, bad_texts, is_space, opens_inf, is_marked, hint_text, script_text};
+ghost use Rattle.lint_cli.specs.Reports.{fault_words, fault_text, bad_text, bad_texts, is_space, opens_inf, is_marked, is_inf, misplaced_text, script_text};
 ghost use Rattle.lint_cli.specs.Lints.{is_bad_script};
 
 use crate::causes::cause_text;
-use crate::shown::{push_error_head, push_quoted, push_warning_head};
+use crate::shown::{push_error_head, push_quoted};
 use script_lint::{BadLine, LineFault, faults_of};
 use std::alloc::{AllocError, Global};
 
@@ -84,20 +84,33 @@ fn is_marked(script: &[u8]) -> bool
     }
 }
 
-/// Appends what is told of an INF that is given as the script.
-fn push_hint(alloc: Global, file: &[u8], script: &[u8], out: &mut Vec<u8>) -> Result<(), AllocError>
-    ensures { OnOk result (out.new.items ≡ out.old.items ++ hint_text file.now script.now) }
+/// Whether a script begins as an INF does.
+fn is_inf(script: &[u8]) -> bool
+    ensures { result ≡ is_inf script.now }
 {
-    if is_marked(script) || opens_inf(script) {
-        push_warning_head(alloc, out, file, 1)?;
-        out.extend_from_slice(
-            b"this looks like an INF; the script comes first, and behind --inf there is none\n",
-        )?;
-    }
+    is_marked(script) || opens_inf(script)
+}
+
+/// Appends what is told of an INF that is given as the script.
+fn push_misplaced(alloc: Global, file: &[u8], out: &mut Vec<u8>) -> Result<(), AllocError>
+    ensures { OnOk result (out.new.items ≡ out.old.items ++ misplaced_text file.now) }
+{
+    push_error_head(alloc, out, file, 1)?;
+    out.extend_from_slice(
+        b"this begins as an INF does: the script comes first, its comments begin with #, and behind --inf there is none\n",
+    )?;
     Ok(())
 }
 
-/// Appends what is written of a script: a line for each bad line, and a hint where it is an INF; whether there is a bad line.
+/// Whether a line of a script is bad.
+fn has_bad_line(alloc: Global, script: &[u8]) -> Result<bool, AllocError>
+    ensures { IfOk result (λ bad. bad ≡ is_bad_script script.now) }
+{
+    let bad = faults_of(alloc, script)?;
+    Ok(!bad.is_empty())
+}
+
+/// Appends what is written of a script: a line for each bad line, or that it is an INF; whether there is a bad line.
 pub fn report_script(
     alloc: Global,
     file: &[u8],
@@ -107,7 +120,9 @@ pub fn report_script(
     ensures text { OnOk result (out.new.items ≡ out.old.items ++ script_text file.now script.now) }
     ensures bad { IfOk result (λ bad. bad ≡ is_bad_script script.now) }
 {
-    let bad = push_all_bad(alloc, file, script, out)?;
-    push_hint(alloc, file, script, out)?;
-    Ok(bad)
+    if is_inf(script) {
+        push_misplaced(alloc, file, out)?;
+        return has_bad_line(alloc, script);
+    }
+    push_all_bad(alloc, file, script, out)
 }

@@ -3,6 +3,7 @@
 use crate::lints::{ends_by, gives, gives_by};
 use lint_cli::Status;
 use pnp_io::MemFiles;
+use std::alloc::Global;
 use std::test::Fail;
 
 #[test]
@@ -171,15 +172,22 @@ i:7: warning: there is no section [J.Services], which gives the driver
     )
 }
 
+/// A file with these bytes, given as the script, is told to be an INF, and no more.
+fn is_misplaced(alloc: Global, bytes: &[u8]) -> Result<(), Fail> {
+    let mut files = MemFiles::new(alloc);
+    files.add(b"i", bytes)?;
+    let text =
+        "i:1: error: this begins as an INF does: the script comes first, its comments begin with #, and behind --inf there is none
+";
+    ends_by(alloc, &["i"], &mut files, 4096, Status::Found, text)
+}
+
 #[test]
 fn an_inf_in_place_of_a_script(rt: HostRuntime) -> Result<(), Fail> {
-    let mut files = MemFiles::new(rt.alloc());
-    files.add(b"i", b"\n[Version]\n")?;
-    let text =
-        "i:2: error: \"[Version]\" is no keyword; keywords are written in lower case: driver, teach, plug, pull, disable, enable, eject, relate, reserve, complete, open, close, window, change, watch, unwatch
-i:1: warning: this looks like an INF; the script comes first, and behind --inf there is none
-";
-    ends_by(rt.alloc(), &["i"], &mut files, 4096, Status::Found, text)
+    is_misplaced(rt.alloc(), b"\n[Version]\nplug\n")?;
+    is_misplaced(rt.alloc(), b" ; a comment\n[Version]\n")?;
+    is_misplaced(rt.alloc(), b"\xFF\xFE[\0V\0]\0")?;
+    is_misplaced(rt.alloc(), b"\xFE\xFF\0[\0V\0]")
 }
 
 #[test]
