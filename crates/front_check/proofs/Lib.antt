@@ -1,0 +1,7 @@
+mod Telling
+mod Fronts
+mod Endings
+mod Verdicts
+mod Dues
+mod Asking
+mod Turning

@@ -1,0 +1,2 @@
+pub mod FrontChecks
+pub mod Turns
