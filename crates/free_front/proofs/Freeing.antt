@@ -19,7 +19,7 @@ use Rattle.free_front.specs.FreeFronts.{FreeFrontSteps, with_drivers}
 use Rattle.free_front.specs.Laws.{EachFrontStepIsFreeLaw}
 use Rattle.free_front.proofs.Nexts.{NextOf, machine, own, next_by}
 
-lift_up : (settings : Settings) (f : Front) (hand : Hand) (o : Option (Doing Step)) (m : Step) → ma.IsStep settings o m → IsFrontStep settings (option_map (doing_map (fr.lifted f hand)) o) (fr.lifted f hand m)
+pub lift_up : (settings : Settings) (f : Front) (hand : Hand) (o : Option (Doing Step)) (m : Step) → ma.IsStep settings o m → IsFrontStep settings (option_map (doing_map (fr.lifted f hand)) o) (fr.lifted f hand m)
 lift_up settings f hand None m h = absurd h
 lift_up settings f hand (Some (Does x)) m h = ap (fr.lifted f hand) h
 lift_up settings f hand (Some (Searches problem by_answer)) m (found, answer, is) = (found, answer, ap (fr.lifted f hand) is)

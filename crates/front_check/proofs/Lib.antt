@@ -5,3 +5,7 @@ mod Verdicts
 mod Dues
 mod Asking
 mod Turning
+pub mod OneVerdict
+mod Outs
+pub mod Clientless
+mod Ahead

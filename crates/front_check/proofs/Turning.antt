@@ -136,17 +136,20 @@ over_read checked run old new script rest lines here same tells =
       finished = same;
     }
 
+pub end_read : (old new : Reading) → old.finished ≡ true → Answers Next.End old new → trace true old.passed old.rest ≡ ends
+end_read old new finished (moves, _, at_end) = read_on old new finished moves ∙ ap (trace true new.passed) at_end.empty
+
+pub bad_read : (old new : Reading) (number : ℕ) → old.finished ≡ true → Answers (Next.Bad number) old new → trace true old.passed old.rest ≡ stops number
+bad_read old new number finished (moves, _, _, is, stuck) =
+    read_on old new finished moves ∙ ap (trace true new.passed) (sym (append-nil new.rest)) ∙ stuck.same true [] new.passed (λ shut. (refl, refl)) ∙ ap stops (sym is)
+
 pub end_turn : (checked : Checked) (run : Desk) (old new : Reading) (rest : Text) (lines : ℕ) → old.finished ≡ true → Answers Next.End old new
     → Tells checked (told_of run) (Runs (front_of run) ends) rest lines → IsTurn (Turn.Over checked) run old rest lines new
-end_turn checked run old new rest lines finished (moves, _, at_end) tells =
-    over_read checked run old new ends rest lines (read_on old new finished moves ∙ ap (trace true new.passed) at_end.empty) moves.finished tells
+end_turn checked run old new rest lines finished answers tells = over_read checked run old new ends rest lines (end_read old new finished answers) answers.0.finished tells
 
 pub bad_turn : (checked : Checked) (run : Desk) (old new : Reading) (number : ℕ) (rest : Text) (lines : ℕ) → old.finished ≡ true → Answers (Next.Bad number) old new
     → Tells checked (told_of run) (Runs (front_of run) (stops number)) rest lines → IsTurn (Turn.Over checked) run old rest lines new
-bad_turn checked run old new number rest lines finished (moves, _, _, is, stuck) tells =
-    over_read checked run old new (stops number) rest lines
-    (read_on old new finished moves ∙ ap (trace true new.passed) (sym (append-nil new.rest)) ∙ stuck.same true [] new.passed (λ shut. (refl, refl)) ∙ ap stops (sym is))
-    moves.finished tells
+bad_turn checked run old new number rest lines finished answers tells = over_read checked run old new (stops number) rest lines (bad_read old new number finished answers) answers.0.finished tells
 
 -- The whole -------------------------------------------------------------------------------
 

@@ -10,8 +10,8 @@ ghost use Rattle.front_check.specs.Turns.{Tells};
 
 use device_ids::WantOfMemory;
 use pnp_labels::decimal;
-use trace_check::Checked;
 use std::alloc::Global;
+use trace_check::Checked;
 
 /// The line that tells of a bad line, with its LF. Cost: its length.
 pub(crate) fn bad_line(alloc: Global, number: u64) -> Result<Vec<u8>, WantOfMemory>

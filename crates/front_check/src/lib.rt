@@ -3,6 +3,7 @@
 
 mod asks;
 mod check;
+mod clients;
 mod due;
 mod front;
 pub mod laws;
@@ -11,3 +12,4 @@ mod step;
 mod turn;
 
 pub use check::check_front_trace;
+pub use clients::has_clients;

@@ -75,7 +75,12 @@ fn take_event(
 }
 
 /// The end of the output is due.
-fn take_end(alloc: Global, run: &FreeFront, rest: &[u8], lines: u64) -> Result<Checked, WantOfMemory>
+fn take_end(
+    alloc: Global,
+    run: &FreeFront,
+    rest: &[u8],
+    lines: u64,
+) -> Result<Checked, WantOfMemory>
     requires room { lines + length rest.now < 2 ^ 63 }
     ensures { IfOk result (λ checked. TellsEnd checked (front_of run.now) rest.now lines) }
 {

@@ -3,7 +3,7 @@ use Rattle.std.proofs.lemmas.List.{take_rest}
 use Rattle.pnp_labels.specs.Texts.{Text}
 use Rattle.notify_front.specs.Desks.{front_of, told_of}
 use Rattle.front_check.specs.declared.turn.Turn.{Turn}
-use Rattle.trace_check.specs.Turns.{IsTurn, Tells, place}
+use Rattle.front_check.specs.Turns.{IsTurn, Tells, place}
 use Rattle.front_check.proofs.Turning.{line_leads, line_within}
 use Rattle.front_check.proofs.check.check_lines.Goals as goal
 
@@ -20,7 +20,7 @@ lines-preserved c =
     in
     record {
       finished = turn.finished ∙ c.lines.invariant.finished;
-      room = omega (arith, turn.room.2, c.lines.invariant.room);
+      room = omega (arith, turn.room.1, c.lines.invariant.room);
       few = omega (arith, left, some, most, c.lines.invariant.few);
       leads =
           λ checked tells. c.lines.invariant.leads checked

@@ -1,9 +1,9 @@
 use Rattle.std.proofs.Common.{◌≡◌, ◌+◌, ℕ, sym, ◌∙◌, subst, true, false}
 use Rattle.std.proofs.lemmas.Bool.Decides.{Decides-eqb}
 use Rattle.std.proofs.lemmas.Slice.Eq.{slice_eq-Decides}
-use Rattle.free_model.specs.Checks.{Ends}
-use Rattle.trace_check.specs.Turns.{Tells}
 use Rattle.trace_check.specs.declared.check.Checked.{Checked}
+use Rattle.front_check.specs.FrontChecks.{Ends}
+use Rattle.front_check.specs.Turns.{Tells}
 use Rattle.front_check.proofs.Dues.{all_alike, not_alike}
 use Rattle.front_check.proofs.due.held_against.Goals as goal
 

@@ -1,22 +1,14 @@
 use Rattle.std.proofs.Common.{◌≡◌, Bool, true, false, length, ◌∙◌, subst}
-use Rattle.free_model.specs.Checks.{IsOfMachine}
 use Rattle.notify_front.specs.Desks.{front_of, told_of}
-use Rattle.trace_check.specs.Clients.{IfOfMachine}
 use Rattle.trace_check.specs.Turns.{IfFront}
-use Rattle.front_check.proofs.Turning.{client_refused, event_taken, event_refused}
+use Rattle.front_check.proofs.Turning.{event_goes_on, event_taken, event_refused}
 use Rattle.front_check.proofs.turn.take_event.Goals as goal
-
-pub returns-then-not-is_of_machine-clause-finds : goal.returns-then-not-is_of_machine-clause-finds
-returns-then-not-is_of_machine-clause-finds c =
-    client_refused (told_of c.args.run) c.args.run.state c.args.event c.args.rest.now c.args.lines c.requires.quiet
-    (subst (λ (b : Bool). IfOfMachine b c.args.event) c.if-not-is_of_machine.true c.is_of_machine.ensures)
 
 pub returns-then-begins_with-clause-finds : goal.returns-then-begins_with-clause-finds
 returns-then-begins_with-clause-finds c =
-    let own : IsOfMachine c.args.event = subst (λ (b : Bool). IfOfMachine b c.args.event) c.if-not-is_of_machine.false c.is_of_machine.ensures in
     let front : IfFront true c.args.rest.now c.deref.result.now = subst (λ (b : Bool). IfFront b c.args.rest.now c.deref.result.now) c.if-begins_with.true c.begins_with.ensures in
     let size : c.len.result ≡ length c.in-Ok.line.items = c.len.ensures ∙ c.in-Ok.line.ok.0 in
-    event_taken (told_of c.args.run) c.args.run c.event_line.new.run c.args.event c.in-Ok.line.items c.args.rest.now c.len.result c.requires.quiet own c.in-Ok.ensures
+    event_taken (told_of c.args.run) c.args.run c.event_line.new.run c.args.event c.in-Ok.line.items c.args.rest.now c.len.result c.requires.quiet c.in-Ok.ensures
     (subst (IfFront true c.args.rest.now) c.deref.ensures.value front) size
 
 pub returns-clause-finds : goal.returns-clause-finds
@@ -24,3 +16,6 @@ returns-clause-finds c =
     let front : IfFront false c.args.rest.now c.deref.result.now = subst (λ (b : Bool). IfFront b c.args.rest.now c.deref.result.now) c.if-begins_with.false c.begins_with.ensures in
     event_refused (told_of c.args.run) c.args.run c.event_line.new.run c.args.event c.in-Ok.line.items c.args.rest.now c.args.lines c.requires.quiet c.in-Ok.ensures
     (subst (IfFront false c.args.rest.now) c.deref.ensures.value front)
+
+pub returns-then-begins_with-clause-on : goal.returns-then-begins_with-clause-on
+returns-then-begins_with-clause-on c = event_goes_on c.args.run c.event_line.new.run c.args.event c.in-Ok.line.items c.len.result c.in-Ok.ensures

@@ -3,7 +3,7 @@ use Rattle.script_reader.specs.Answers.{Answers}
 use Rattle.script_reader.specs.Script.{trace}
 use Rattle.script_reader.specs.declared.next.Next.{Next}
 use Rattle.notify_front.specs.Desks.{front_of, told_of}
-use Rattle.front_check.proofs.FewIds.{few_ids}
+use Rattle.trace_check.proofs.FewIds.{few_ids}
 use Rattle.front_check.proofs.Verdicts.{tells_end}
 use Rattle.front_check.proofs.Turning.{event_read, event_turns, end_turn, bad_turn}
 use Rattle.front_check.proofs.turn.take_rest.Goals as goal
@@ -28,4 +28,4 @@ pub returns-in_ok-checked-in-Ok-End : goal.returns-in_ok-checked-in-Ok-End
 returns-in_ok-checked-in-Ok-End c =
     let answers : Answers Next.End c.args.reader.now c.next_event.new.self = subst (λ (n : Next). Answers n c.args.reader.now c.next_event.new.self) c.in-Ok-End.field-0-is c.in-Ok-End.ensures.answers in
     end_turn c.in_ok-checked-in-Ok-End.field-0 c.args.run c.args.reader.now c.next_event.new.self c.args.rest.now c.args.lines c.requires.finished answers
-    (tells_end (told_of c.args.run) c.in_ok-checked-in-Ok-End.field-0 c.args.run.state c.args.rest.now c.args.lines c.requires.quiet (c.in_ok-checked-in-Ok-End.ensures.tells (told_of c.args.run)))
+    (tells_end (told_of c.args.run) c.in_ok-checked-in-Ok-End.field-0 (front_of c.args.run) c.args.rest.now c.args.lines c.requires.quiet (c.in_ok-checked-in-Ok-End.ensures.tells (told_of c.args.run)))
