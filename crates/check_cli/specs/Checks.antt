@@ -1,5 +1,5 @@
 -- What a check answers, by what the files hold.
-use Rattle.std.specs.Prelude.{ℕ, ◌≡◌, Bool, true, false, List, ◌∷◌, ◌++◌, Option, Some, None, Ok, replicate, map, Vec}
+use Rattle.std.specs.Prelude.{ℕ, ◌≡◌, ◌⊎◌, Bool, true, false, List, ◌∷◌, ◌++◌, Option, Some, None, Ok, replicate, map, Vec}
 use Rattle.std.specs.Global.{Global}
 use Rattle.inf_reader.specs.declared.parts.Inf.{Inf}
 use Rattle.inf_reader.specs.Meaning.{inf}
@@ -10,9 +10,13 @@ use Rattle.pnp_labels.specs.declared.words.DriverKind.TheVariants.{Scripted, Ste
 use Rattle.pnp_model.specs.Records.{Settings}
 use Rattle.script_reader.specs.Script.{trace}
 use Rattle.start_sequence.specs.Begins.{settings_of}
-use Rattle.free_model.specs.Checks.{Place, IsYes, IsNo, beginning}
+use Rattle.free_model.specs.Checks as alone
+use Rattle.front_check.specs.FrontChecks.{Place, IsYes, IsNo, beginning}
+use Rattle.front_check.specs.Laws.{HasNoClients}
+use Rattle.front_hint.specs.Hints.{IsSeen}
 use Rattle.trace_hint.specs.declared.allowed.Seen.{Seen}
-use Rattle.trace_hint.specs.Hints.{AreRead, IsSeen}
+use Rattle.trace_hint.specs.Hints as machine
+use Rattle.trace_hint.specs.Hints.{AreRead}
 use Rattle.check_cli.specs.declared.status.Status.{Status}
 
 -- as those that pnpmgr has
@@ -51,11 +55,17 @@ abbrev pub status_of : Seen → Status
 status_of Seen.Yes = Status.Done
 status_of (Seen.No line allowed) = Status.NotARun
 
--- what was seen of a trace, by what the three sorts of files hold
-abbrev pub IsSeenOf : List (Vec ℕ Global) → Text → Text → ℕ → Seen → Type 0
-IsSeenOf infs text script budget seen = (read : List Inf) → AreRead infs read → IsSeen (settings_of read budget) (beginning program_kinds (trace true 0 script)) text seen
+-- what was seen of a trace of a script: where it has no clients as the machine's definitions say, or as those of what stands before it
+abbrev pub IsLooked : Settings → List DriverKind → Text → Text → Seen → Type 0
+IsLooked told kinds script text seen =
+    (HasNoClients (trace true 0 script) × machine.IsSeen told (alone.beginning kinds (trace true 0 script)) text seen)
+    ⊎ IsSeen told (beginning kinds (trace true 0 script)) text seen
 
--- what a status says of a trace
+-- the same, by what the three sorts of files hold
+abbrev pub IsLookedOf : List (Vec ℕ Global) → Text → Text → ℕ → Seen → Type 0
+IsLookedOf infs text script budget seen = (read : List Inf) → AreRead infs read → IsLooked (settings_of read budget) program_kinds script text seen
+
+-- what a status says of a trace: that it is a run of what stands before the machine, or none. Without clients that is one of the machine
 abbrev pub Says : Settings → Place → Text → Status → Type 0
 Says told here text Status.Done = IsYes told here text
 Says told here text Status.NotARun = (line : ℕ) × IsNo told here text line

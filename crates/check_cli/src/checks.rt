@@ -7,13 +7,14 @@ ghost use Rattle.pnp_io.specs.Outside.{Rose};
 use crate::error::CheckError;
 use crate::files::{read_file, read_infs};
 use crate::kinds::program_kinds;
+use crate::looks::look_over;
 use crate::report::{refusal, report};
 use crate::status::Status;
 use crate::words::{Words, words_of};
 use inf_reader::InfError;
 use pnp_io::{Files, Sink, write_all};
 use std::alloc::Global;
-use trace_hint::{Seen, look_at};
+use trace_hint::Seen;
 
 /// The most INFs that the words may name: this project's own.
 const MOST_INFS: usize = 64;
@@ -50,7 +51,7 @@ fn look_named<F: Files>(
         return Err(CheckError::BadWords);
     }
     let kinds = program_kinds(alloc)?;
-    let seen = look_at(alloc, &script, &infs, &kinds, budget, &trace)?;
+    let seen = look_over(alloc, &script, &infs, &kinds, budget, &trace)?;
     let text = report(alloc, &seen, &trace)?;
     let status = status_of(&seen);
     Ok((status, text))
@@ -98,9 +99,9 @@ fn answer_refusal<K: Sink>(alloc: Global, number: u64, error: InfError, sink: &m
 }
 
 /// Checks what the words name, which are the program's name, a trace, a script and up to 64 INFs, and perhaps `--budget N`: whether the
-/// trace is a run of the machine for the script over drivers of the program's kinds, whatever they answer. Written is `yes`, with `Done`;
-/// or, with `NotARun`, `no line N` and then the line before, what stands there and each line that is allowed in its place; or the line
-/// of a refused INF. `ReadFault` comes only where the count of a file's faults rose in this call, `WriteFault` only where that of the
+/// trace is a run for the script over drivers of the program's kinds, whatever they answer; a client answers as it registered. Written is
+/// `yes`, with `Done`; or, with `NotARun`, `no line N` and then the line before, what stands there and each line that is allowed in its
+/// place; or the line of a refused INF. `ReadFault` comes only where the count of a file's faults rose in this call, `WriteFault` only where that of the
 /// sink rose; after `BadWords`, `ReadFault`, `WantOfMemory` and `TooLarge` nothing was written. Cost: that of `pnpmgr --check`, and three
 /// times that of the run up to the line.
 pub fn check<F: Files, K: Sink>(

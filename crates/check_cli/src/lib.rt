@@ -7,6 +7,7 @@ mod error;
 mod files;
 mod kinds;
 mod lines;
+mod looks;
 mod report;
 mod status;
 mod words;

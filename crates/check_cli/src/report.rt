@@ -6,6 +6,39 @@ use pnp_labels::decimal;
 use std::alloc::{AllocError, Global};
 use trace_hint::Seen;
 
+/// What is said behind a line that stands there with its LF: where a carriage return is its last byte, that one is there.
+fn behind(line: &[u8]) -> &'static [u8] {
+    if ends_with_return(line) {
+        b" (a carriage return at the line's end)"
+    } else {
+        b""
+    }
+}
+
+/// Whether the last byte of a line is a carriage return.
+fn ends_with_return(line: &[u8]) -> bool {
+    matches!(line, [.., b'\r'])
+}
+
+/// The line without a carriage return at its end.
+fn without_return(line: &[u8]) -> &[u8] {
+    match line {
+        [front @ .., b'\r'] => front,
+        _ => line,
+    }
+}
+
+/// Whether each line of a trace that was cut into its lines has a carriage return at its end: the last one has no LF.
+fn all_return(lines: &[&[u8]]) -> bool {
+    let mut all = lines.len() > 1;
+    for at in 0..lines.len() {
+        if at + 1 < lines.len() && !ends_with_return(lines[at]) {
+            all = false;
+        }
+    }
+    all
+}
+
 /// Appends what stands in the trace at the line that is not allowed, and before it the line that is the last allowed one: where it
 /// tells an answer, that may be the wrong one.
 fn push_there(out: &mut Vec<u8>, lines: &[&[u8]], number: u64) -> Result<(), AllocError> {
@@ -13,22 +46,19 @@ fn push_there(out: &mut Vec<u8>, lines: &[&[u8]], number: u64) -> Result<(), All
         push_line(out, b"before:  ", line, b"")?;
     }
     match line_at(lines, number) {
-        Place::Line(line) => push_line(out, b"there:   ", line, b""),
-        Place::Open(line) => push_line(out, b"there:   ", line, b" (without a line feed)"),
-        Place::Over => push_line(out, b"the trace ends here", b"", b""),
+        Place::Line(line) => push_line(out, b"there:   ", without_return(line), behind(line))?,
+        Place::Open(line) => push_line(out, b"there:   ", line, b" (without a line feed)")?,
+        Place::Over => push_line(out, b"the trace ends here", b"", b"")?,
     }
-}
-
-/// Whether one of these lines before the line of a number says that the list of outstanding requests begins, which is the last part of
-/// an output.
-fn is_in_last_part(lines: &[&[u8]], number: u64) -> bool {
-    let mut found = false;
-    for at in 0..lines.len() {
-        if at as u64 + 1 < number && lines[at] == b"outstanding".as_slice() {
-            found = true;
-        }
+    if all_return(lines) {
+        push_line(
+            out,
+            b"each line of the trace has a carriage return at its end: the program writes none",
+            b"",
+            b"",
+        )?;
     }
-    found
+    Ok(())
 }
 
 /// Whether one of the lines before this place is the same.
@@ -52,21 +82,7 @@ fn push_allowed(out: &mut Vec<u8>, allowed: &[Vec<u8>]) -> Result<(), AllocError
     Ok(())
 }
 
-/// Appends why no line is allowed: the output is over, or the next line of the script is one of a client, which the machine does not know.
-fn push_none(out: &mut Vec<u8>, lines: &[&[u8]], number: u64) -> Result<(), AllocError> {
-    if is_in_last_part(lines, number) {
-        push_line(out, b"nothing more is due", b"", b"")
-    } else {
-        push_line(
-            out,
-            b"nothing is allowed: the line of the script is one of a client",
-            b"",
-            b"",
-        )
-    }
-}
-
-/// The text of what was seen of a trace.
+/// The text of what was seen of a trace. Where no line is allowed the output is over.
 pub(crate) fn report(alloc: Global, seen: &Seen, trace: &[u8]) -> Result<Vec<u8>, AllocError> {
     let mut out = Vec::new(alloc);
     match seen {
@@ -82,7 +98,7 @@ pub(crate) fn report(alloc: Global, seen: &Seen, trace: &[u8]) -> Result<Vec<u8>
             push_there(&mut out, &lines, *line)?;
             push_allowed(&mut out, allowed)?;
             if allowed.is_empty() {
-                push_none(&mut out, &lines, *line)?;
+                push_line(&mut out, b"nothing more is due", b"", b"")?;
             }
         }
     }

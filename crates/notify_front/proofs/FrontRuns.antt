@@ -120,8 +120,8 @@ ready_of s hand first agreed left is fits = subst (λ (x : Hand). Fits s x) is f
 -- Quiet fronts -----------------------------------------------------------------------------------
 
 -- the machine of a quiet front is quiet
-pub machine_quiet : (told : Settings) (n : ℕ) (f : Front) → IsOfFrontRun told n f → IsFrontQuiet told f → ma.next told f.state ≡ None
-machine_quiet told n f h quiet = (quiet_hand told f f.hand (fits_of told n f h) quiet).quiet
+pub machine_quiet : (told : Settings) (f : Front) → Fits f.state f.hand → IsFrontQuiet told f → ma.next told f.state ≡ None
+machine_quiet told f fits quiet = (quiet_hand told f f.hand fits quiet).quiet
 
 -- and where nothing is at hand, the front of a quiet machine
 idle_quiet : (told : Settings) (f : Front) → f.hand ≡ Hand.Nothing → ma.next told f.state ≡ None → IsFrontQuiet told f
@@ -145,9 +145,9 @@ turn_quiet told f turn (inr (inr is)) h quiet =
     by_machine told f f.hand (run_next told f runs.told runs.is) quiet
 
 -- so where no client is told and nothing is declined, a test of the machine is one of the front
-pub tells_quiet : (b : Bool) (told : Settings) (n : ℕ) (f : Front) (turn : Turn) → IsOfFrontRun told n f → (turn ≡ Turn.Idle) ⊎ ((turn ≡ Turn.Begin) ⊎ (turn ≡ Turn.Run)) → IsTurn turn f.hand → IfQuiet b told f.state → IfFrontQuiet b told f
-tells_quiet true told n f turn h is at quiet = turn_quiet told f turn is at quiet
-tells_quiet false told n f turn h is at busy = λ quiet. busy (machine_quiet told n f h quiet)
+pub tells_quiet : (b : Bool) (told : Settings) (f : Front) (turn : Turn) → Fits f.state f.hand → (turn ≡ Turn.Idle) ⊎ ((turn ≡ Turn.Begin) ⊎ (turn ≡ Turn.Run)) → IsTurn turn f.hand → IfQuiet b told f.state → IfFrontQuiet b told f
+tells_quiet true told f turn fits is at quiet = turn_quiet told f turn is at quiet
+tells_quiet false told f turn fits is at busy = λ quiet. busy (machine_quiet told f fits quiet)
 
 -- Desks --------------------------------------------------------------------------------------------
 
@@ -155,13 +155,17 @@ tells_quiet false told n f turn h is at busy = λ quiet. busy (machine_quiet tol
 abbrev pub IsReached : Desk → Type 0
 IsReached d = IsOfFrontRun (told_of d) d.manager.events (front_of d)
 
+-- what is at hand fits the machine's state
+pub reached_fits : (d : Desk) → IsReached d → Fits d.manager.state d.hand
+reached_fits d h = fits_of (told_of d) d.manager.events (front_of d) h
+
 -- what all agreed to is due
-pub begun_of : (d : Desk) → IsReached d → AllAgreed d.hand → IsBegun d.manager.state d.hand
-begun_of d h all = record { all = all; is_due = (subst (λ (x : Hand). Fits d.manager.state x) all.is (fits_of (told_of d) d.manager.events (front_of d) h)).is_due }
+pub begun_of : (d : Desk) → Fits d.manager.state d.hand → AllAgreed d.hand → IsBegun d.manager.state d.hand
+begun_of d fits all = record { all = all; is_due = (subst (λ (x : Hand). Fits d.manager.state x) all.is fits).is_due }
 
 -- and what one refused
-pub refused_of : (d : Desk) (kind : OpKind) (serial : ℕ) → IsReached d → AllCancelled kind serial d.hand → IsReady d.manager.state (begins kind serial)
-refused_of d kind serial h all = subst (λ (x : Hand). Fits d.manager.state x) all.is (fits_of (told_of d) d.manager.events (front_of d) h)
+pub refused_of : (d : Desk) (kind : OpKind) (serial : ℕ) → Fits d.manager.state d.hand → AllCancelled kind serial d.hand → IsReady d.manager.state (begins kind serial)
+refused_of d kind serial fits all = subst (λ (x : Hand). Fits d.manager.state x) all.is fits
 
 module _ (d d' : Desk) (h : IsReached d) where
   abbrev Same : Type 0

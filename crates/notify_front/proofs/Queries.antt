@@ -1,19 +1,16 @@
 -- What the next step of a front asks.
 use Rattle.std.proofs.Common.{ℕ, ◌≡◌, Bool, true, false, List, [], ◌∷◌, Option, Some, None, IsSome, refl, sym, ap, ◌∙◌, subst, slice_get, option_map, find, reverse}
-use Rattle.pnp_labels.specs.declared.label.Label.{Label}
 use Rattle.pnp_labels.specs.declared.label.OpKind.{OpKind}
-use Rattle.pnp_model.specs.Cores.{node_at}
-use Rattle.pnp_model.specs.Machine.{IsStep, begin_alone, due, due_alone, due_duty, due_task, due_with, is_ready, next}
-use Rattle.pnp_model.specs.Records.{Activity, Beginning, Doing, Driver, Duty, Found, Job, Settings, State, Step, Task, doing_map}
+use Rattle.pnp_model.specs.Machine.{IsStep, due, due_alone, due_duty, due_task, due_with, is_ready, next}
+use Rattle.pnp_model.specs.Records.{Activity, Beginning, Doing, Duty, Job, Settings, State, Step, Task, doing_map}
 use Rattle.pnp_model.specs.Records.Doing.{Does, Searches}
 use Rattle.pnp_labels.specs.Texts.{Text}
 use Rattle.free_model.specs.Asking.{AsksSo}
 use Rattle.free_model.specs.Asks.{Query, idle_query, next_query, query_of}
 use Rattle.free_model.proofs.AskSteps.{each_step_asks}
-use Rattle.notify_front.specs.Fronts.{Front, FrontEntry, FrontStep, FrontSteps, Hand, IsFrontStep, Registration, ask_next, ask_one, begin_next, cancel_next, front_next, front_printed, hand_next, idle_next, lifted, machine_next, on_set, running}
-use Rattle.notify_front.specs.Hands.{AllAgreed, AllCancelled, IsRunning, IsTurn, next_told}
-use Rattle.notify_front.specs.Queries.{EachFrontStepAsksLaw, front_query, hand_query}
-use Rattle.notify_front.specs.declared.round.Turn.{Turn}
+use Rattle.notify_front.specs.Fronts.{Front, FrontEntry, FrontStep, Hand, IsFrontStep, Registration, ask_next, ask_one, begin_next, cancel_next, front_printed, hand_next, idle_next, lifted, machine_next, on_set, running}
+use Rattle.notify_front.specs.Hands.{AllAgreed, AllCancelled, IsRunning, next_told}
+use Rattle.notify_front.specs.Queries.{EachFrontStepAsksLaw, hand_query}
 
 -- By what is at hand ----------------------------------------------------------------------
 

@@ -19,6 +19,7 @@ use Rattle.pnp_labels.specs.declared.event.Event.{Event}
 use Rattle.pnp_labels.specs.Texts.{Text}
 use Rattle.notify_front.specs.Fronts as fr
 use Rattle.notify_front.specs.Fronts.{Front, Hand, FrontEntry, FrontStep, Answered, IsFrontStep, IsFrontQuiet, Registration, opening_front}
+pub use Rattle.notify_front.specs.Hands.{Fits, IsReady}
 use Rattle.notify_front.specs.Notices.{FrontRun, FrontGoes, machine_part}
 use Rattle.notify_front.specs.Laws.{RunsTheMachineLaw, NoticesKeepTheCoreLaw, DueBeginsLaw, IsTold}
 
@@ -28,17 +29,6 @@ due_begins settings s first h =
     (begin_step s first.kind first.serial (node_at first.serial s.core.nodes), first_begins settings s first is, is.begins)
 
 -- What is kept ----------------------------------------------------------------------------
-
--- a removal in order is due
-pub record IsReady (s : State) (first : Beginning) : Type 0 where
-  pub is_due : ma.due s ≡ Some first
-  pub in_order : ma.is_in_order first.kind ≡ true
-
--- while clients are asked, and told that one refused, the removal is due
-abbrev pub Fits : State → Hand → Type 0
-Fits s (Hand.Asking first agreed left) = IsReady s first
-Fits s (Hand.Cancelling first client left) = IsReady s first
-Fits s _ = Unit {0}
 
 -- nobody is being asked
 abbrev pub IsCalm : Hand → Type 0
@@ -230,7 +220,7 @@ part_watched settings f event a fits beside =
 part_passed : (settings : Settings) (f : Front) (event : Event) → IsQuietFront settings f f.hand → Part settings f (fr.passed f event (happens f.state event))
 part_passed settings f event q = record { goes = (q.quiet, refl); fits = calm_fits (happens f.state event).state f.hand q.calm }
 
-part_happens : (settings : Settings) (f : Front) (event : Event) → Fits f.state f.hand → IsQuietFront settings f f.hand → Part settings f (fr.front_happens f event)
+pub part_happens : (settings : Settings) (f : Front) (event : Event) → Fits f.state f.hand → IsQuietFront settings f f.hand → Part settings f (fr.front_happens f event)
 part_happens settings f (Event.Watch client path agrees) fits q =
     part_watched settings f (Event.Watch client path agrees) (fr.watch_at f client agrees (node_of path f.state.core.nodes)) fits (watch_at f client agrees (node_of path f.state.core.nodes))
 part_happens settings f (Event.Unwatch client path) fits q =

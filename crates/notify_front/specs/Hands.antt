@@ -5,7 +5,7 @@ use Rattle.pnp_labels.specs.declared.label.Label.{Label}
 use Rattle.pnp_labels.specs.declared.label.NoticeKind.{NoticeKind}
 use Rattle.pnp_labels.specs.declared.label.OpKind.{OpKind}
 use Rattle.pnp_model.specs.Keyed.{without_first}
-use Rattle.pnp_model.specs.Machine.{due}
+use Rattle.pnp_model.specs.Machine.{due, is_in_order}
 use Rattle.pnp_model.specs.Records.{Beginning, State}
 use Rattle.pnp_machine.specs.declared.manager.Moved.{Moved}
 use Rattle.pnp_machine.specs.declared.manager.Moved.TheVariants.{Label as Printed, Quiet}
@@ -34,6 +34,19 @@ hand_of Stage.Ended told at = over (drop at told)
 abbrev pub IsInside : Stage → List Registration → ℕ → Type 0
 IsInside (Stage.Cancelling kind serial left) told at = (at < length told) × (left ≤ at)
 IsInside stage told at = at ≤ length told
+
+-- What is due ---------------------------------------------------------------------------
+
+-- a removal in order is due
+pub record IsReady (s : State) (first : Beginning) : Type 0 where
+  pub is_due : due s ≡ Some first
+  pub in_order : is_in_order first.kind ≡ true
+
+-- while clients are asked, and told that one refused, the removal is due
+abbrev pub Fits : State → Hand → Type 0
+Fits s (Hand.Asking first agreed left) = IsReady s first
+Fits s (Hand.Cancelling first client left) = IsReady s first
+Fits s _ = Unit {0}
 
 -- One notice ----------------------------------------------------------------------------
 

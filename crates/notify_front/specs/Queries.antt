@@ -1,5 +1,5 @@
 -- What the next step of a front asks: nobody where a client is told or refused what is due, else what the machine's step asks.
-use Rattle.std.specs.Prelude.{List, [], ◌∷◌, Option, None}
+use Rattle.std.specs.Prelude.{[], ◌∷◌, Option, None}
 use Rattle.free_model.specs.Asking.{AsksSo}
 use Rattle.free_model.specs.Asks.{Query, next_query}
 use Rattle.pnp_model.specs.Records.{Settings, State}

@@ -2,13 +2,15 @@ ghost use Rattle.std.specs.Prelude.{◌≡◌, ◌<◌, ◌^◌, true, Some, IfO
 ghost use Rattle.pnp_model.specs.Cores.{node_at};
 ghost use Rattle.pnp_model.specs.Machine.{IsQuiet, due, is_in_order};
 ghost use Rattle.pnp_model.specs.Runs.{opening};
+ghost use Rattle.free_model.specs.Frees.{with_rack};
+ghost use Rattle.free_model.specs.Shapes.{faces};
 ghost use Rattle.pnp_laws.specs.Stacks.{IsNamed};
 ghost use Rattle.pnp_machine.specs.Machines.{HasFewIds};
 ghost use Rattle.pnp_machine.specs.Queries.{query_of};
 ghost use Rattle.notify_front.specs.Fronts.{Hand, front_happens, on_set};
-ghost use Rattle.notify_front.specs.Desks.{FrontMoves, IfFrontQuiet, IsAlone, IsFrontDone, IsOfFrontRun, front_of, machine_events, opening_desk, told_of};
+ghost use Rattle.notify_front.specs.Desks.{FrontMoves, IfFrontQuiet, IsAlone, IsFrontDone, front_of, machine_events, opening_desk, told_of};
 ghost use Rattle.notify_front.specs.Queries.{front_query};
-ghost use Rattle.notify_front.specs.Hands.{AllCancelled, IsBegun, IsRunning, IsTurn, begins, next_told};
+ghost use Rattle.notify_front.specs.Hands.{AllCancelled, Fits, IsBegun, IsRunning, IsTurn, begins, next_told};
 
 use crate::registration::Registration;
 use crate::registrations::Registrations;
@@ -74,6 +76,16 @@ impl<R: Drivers> Desk<R> {
         Ok(())
     }
 
+    /// Another rack takes the place of the drivers, which are handed back. Condition: kind and name of each driver, by number, are those
+    /// of the driver whose place it takes. It takes no memory.
+    pub(crate) fn swap_rack(&mut self, rack: &mut R)
+        requires faces { faces (R.rows rack.old) ≡ faces self.old.manager.state.core.rack }
+        ensures given { self.new ≡ record self.old { manager = record self.old.manager { state = with_rack (R.rows rack.old) self.old.manager.state } } }
+        ensures back { R.rows rack.new ≡ self.old.manager.state.core.rack }
+    {
+        self.manager.swap_rack(rack);
+    }
+
     /// An event happens, as the front's definition says: those of clients change the registrations, all others are the manager's.
     /// Conditions: those of the manager's call. After want of memory all is as before.
     pub(crate) fn apply(&mut self, event: Event) -> Result<Label, WantOfMemory>
@@ -91,9 +103,9 @@ impl<R: Drivers> Desk<R> {
         }
     }
 
-    /// Whether no step is next. Condition: the front is one of a run.
+    /// Whether no step is next. Condition: what is at hand fits the machine's state.
     pub(crate) fn is_quiet(&self) -> bool
-        requires { IsOfFrontRun (told_of self.now) self.now.manager.events (front_of self.now) }
+        requires { Fits self.now.manager.state self.now.hand }
         ensures { IfFrontQuiet result (told_of self.now) (front_of self.now) }
     {
         match self.round.turn() {
@@ -114,10 +126,11 @@ impl<R: Drivers> Desk<R> {
         }
     }
 
-    /// The next step, as the front's definition says. Condition: the front is one of a run. After want of memory all is as before.
+    /// The next step, as the front's definition says. Condition: what is at hand fits the machine's state. After want of memory all is
+    /// as before.
     #[inline(always)]
     pub(crate) fn step(&mut self) -> Result<Moved, WantOfMemory>
-        requires { IsOfFrontRun (told_of self.old) self.old.manager.events (front_of self.old) }
+        requires { Fits self.old.manager.state self.old.hand }
         ensures moves { IfOk result (λ moved. FrontMoves (told_of self.old) (front_of self.old) moved (front_of self.new)) }
         ensures same { self.new.manager ≡ record self.old.manager { state = self.new.manager.state } }
         ensures err { OnErr result (self.new ≡ self.old) }
@@ -132,7 +145,7 @@ impl<R: Drivers> Desk<R> {
     /// as it stands.
     #[inline(never)]
     fn step_of_round(&mut self, turn: Turn) -> Result<Moved, WantOfMemory>
-        requires run { IsOfFrontRun (told_of self.old) self.old.manager.events (front_of self.old) }
+        requires fits { Fits self.old.manager.state self.old.hand }
         requires turn { IsTurn turn self.old.hand }
         ensures moves { IfOk result (λ moved. FrontMoves (told_of self.old) (front_of self.old) moved (front_of self.new)) }
         ensures same { self.new.manager ≡ record self.old.manager { state = self.new.manager.state } }

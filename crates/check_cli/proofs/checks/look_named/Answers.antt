@@ -1,19 +1,19 @@
 use Rattle.std.proofs.Common.{ℕ, ◌≡◌, ◌∙◌, List, Option, All, Vec, Global, sym, subst}
 use Rattle.pnp_io.specs.Outside.{Holds}
-use Rattle.check_cli.specs.Checks.{IsSeenOf, SaysNamed, texts}
+use Rattle.check_cli.specs.Checks.{IsLookedOf, SaysNamed, texts}
 use Rattle.check_cli.specs.declared.status.Status.{Status}
 use Rattle.trace_hint.specs.Hints.{IsInf}
-use Rattle.check_cli.proofs.Saying.{says_named, seen_of}
+use Rattle.check_cli.proofs.Saying.{says_named, looked_of}
 use Rattle.check_cli.proofs.checks.look_named.Goals as goal
 
-pub look_at-requires-clause-accepted : goal.look_at-requires-clause-accepted
-look_at-requires-clause-accepted g c =
+pub look_over-requires-clause-accepted : goal.look_over-requires-clause-accepted
+look_over-requires-clause-accepted g c =
     subst (λ (l : List (Vec ℕ Global)). All (λ bytes. IsInf bytes.items) l) (sym c.deref-2.ensures.value) c.in_ok-infs.ensures.accepted
 
 pub returns-clause-says : goal.returns-clause-says
 returns-clause-says g c =
-    let is : IsSeenOf c.in_ok-infs.infs.items c.in_ok-trace.trace.items c.in_ok-script.script.items c.args.budget c.in_ok-seen.seen =
-    seen_of c.in_ok-infs.infs.items c.deref-2.result.now c.in_ok-script.script.items c.deref.result.now c.in_ok-trace.trace.items c.deref-4.result.now c.deref-3.result.now c.args.budget c.in_ok-seen.seen
+    let is : IsLookedOf c.in_ok-infs.infs.items c.in_ok-trace.trace.items c.in_ok-script.script.items c.args.budget c.in_ok-seen.seen =
+    looked_of c.in_ok-infs.infs.items c.deref-2.result.now c.in_ok-script.script.items c.deref.result.now c.in_ok-trace.trace.items c.deref-4.result.now c.deref-3.result.now c.args.budget c.in_ok-seen.seen
     c.deref-2.ensures.value c.deref.ensures.value c.deref-4.ensures.value (c.deref-3.ensures.value ∙ c.in_ok-kinds.ensures.kinds) c.in_ok-seen.ensures
     in
     let same : g.F.Files.contents c.read_file.new.files ≡ g.F.Files.contents c.args.files.now = c.in_ok-trace.ensures.same ∙ c.in_ok-infs.ensures.same in

@@ -1,13 +1,13 @@
 use Rattle.std.proofs.Common.{sym, subst}
 use Rattle.notify_front.specs.Fronts.{IsFrontQuiet}
 use Rattle.notify_front.specs.Desks.{Desk, front_of, told_of}
-use Rattle.notify_front.proofs.FrontRuns.{machine_quiet, reached_applied, run_ok}
+use Rattle.notify_front.proofs.FrontRuns.{machine_quiet, reached_applied, reached_fits, run_ok}
 use Rattle.notify_front.proofs.front.Front.apply.Goals as goal
 
 pub apply-requires-clause-quiet : goal.apply-requires-clause-quiet
 apply-requires-clause-quiet g c =
     let d = c.self.inside.desk in
-    machine_quiet (told_of d) d.manager.events (front_of d) c.self.invariant (subst (λ (x : Desk). IsFrontQuiet (told_of x) (front_of x)) (sym c.self.view_is) c.requires.quiet)
+    machine_quiet (told_of d) (front_of d) (reached_fits d c.self.invariant) (subst (λ (x : Desk). IsFrontQuiet (told_of x) (front_of x)) (sym c.self.view_is) c.requires.quiet)
 
 pub invariant_of-self : goal.invariant_of-self
 invariant_of-self g c =

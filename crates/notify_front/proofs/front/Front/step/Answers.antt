@@ -1,6 +1,9 @@
 use Rattle.notify_front.specs.Desks.{front_of, told_of}
-use Rattle.notify_front.proofs.FrontRuns.{laws_after, reached_after}
+use Rattle.notify_front.proofs.FrontRuns.{laws_after, reached_after, reached_fits}
 use Rattle.notify_front.proofs.front.Front.step.Goals as goal
+
+pub step-requires : goal.step-requires
+step-requires g c = reached_fits c.self.inside.desk c.self.invariant
 
 pub invariant_of-self : goal.invariant_of-self
 invariant_of-self g c = reached_after c.self.inside.desk c.step.new.self c.self.invariant c.step.result c.step.ensures.moves c.step.ensures.same c.step.ensures.err

@@ -1,0 +1,4 @@
+pub mod FreeFronts
+pub mod Laws
+pub mod Racks
+pub mod ToldRacks

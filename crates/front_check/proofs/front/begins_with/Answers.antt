@@ -1,0 +1,5 @@
+use Rattle.front_check.proofs.Fronts.{front_by}
+use Rattle.front_check.proofs.front.begins_with.Goals as goal
+
+pub returns : goal.returns
+returns c = front_by c.starts_with.result c.args.rest.now c.args.line.now c.starts_with.ensures.value

@@ -1,0 +1,2 @@
+mod Spotting
+mod Walking

@@ -1,0 +1,55 @@
+//! A walk along the lines of a trace that are allowed.
+ghost use Rattle.std.specs.Prelude.{◌≤◌, IfOk, length};
+ghost use Rattle.pnp_model.specs.Records.{Settings};
+ghost use Rattle.front_check.specs.Turns.{IsTaken};
+ghost use Rattle.front_hint.specs.Spots.{IsOf, IsReady, place};
+ghost use Rattle.front_hint.specs.Hints.{Arrives};
+
+use crate::letters::{answer_in, begins_with};
+use crate::spot::{Move, Spot, move_on};
+use device_ids::WantOfMemory;
+use std::alloc::{AllocError, Global};
+
+/// Takes the first line of what is left, which is allowed here: where it leads, and how many bytes it has with its LF. Where it is not
+/// allowed, which a caller knows not to be, the answer is want of memory.
+fn walk_line(alloc: Global, spot: Spot, rest: &[u8]) -> Result<(Spot, usize), WantOfMemory>
+    requires ready { IsReady spot }
+    ensures taken { IfOk result (λ r. (told : Settings) → IsOf told spot → IsTaken told (place spot) rest.now r.1 (place r.0) × IsOf told r.0) }
+    ensures ready { IfOk result (λ r. IsReady r.0) }
+    ensures within { IfOk result (λ r. r.1 ≤ length rest.now) }
+{
+    match move_on(alloc, spot, answer_in(rest))? {
+        Move::Nothing => Err(AllocError),
+        Move::Line { line, spot } => {
+            if begins_with(rest, &line) {
+                Ok((spot, line.len()))
+            } else {
+                drop(spot);
+                Err(AllocError)
+            }
+        }
+    }
+}
+
+/// Takes so many lines of a trace, all of which are allowed, one after another: where they lead. Cost: that of the run up to there.
+pub(crate) fn walk(
+    alloc: Global,
+    spot: Spot,
+    trace: &[u8],
+    count: u64,
+) -> Result<Spot, WantOfMemory>
+    requires ready { IsReady spot }
+    ensures leads { IfOk result (λ there. (told : Settings) → IsOf told spot → Arrives told (place spot) trace.now count (place there) × IsOf told there) }
+    ensures ready { IfOk result (λ there. IsReady there) }
+{
+    let mut spot = spot;
+    let mut rest = trace;
+    let mut left = count;
+    'lines: while left > 0 {
+        let (next, size) = walk_line(alloc, spot, rest)?;
+        spot = next;
+        rest = &rest[size..];
+        left -= 1;
+    }
+    Ok(spot)
+}
