@@ -41,7 +41,7 @@ use Rattle.pnp_laws.proofs.RunsStand.{Kept, reaches_kept}
 use Rattle.pnp_laws.proofs.RunsStrays.{nobody_is_forgotten}
 use Rattle.pnp_laws.proofs.Stages.{JobStep, OperationStep, own_step}
 use Rattle.pnp_laws.proofs.Turns.{running_good}
-use Rattle.pnp_promises.proofs.AtRest.{at_rest_who_has_gone_is_held_open, no_task}
+use Rattle.pnp_promises.proofs.AtRest.{no_task}
 use Rattle.pnp_promises.proofs.Cares.{Cared, Failed, FineOf, Fine, GivesUp, IsTarget, Onward, Open, Restarts, Settles, TargetFine, TargetIn, Undriven, UnlessUndone, Unstarted, any_pushed, makes_room, onward, starts}
 use Rattle.pnp_promises.proofs.CaresIdle.{drops, start_fine, task_fine}
 use Rattle.pnp_promises.proofs.CaresOperations.{FineJob, gives_target, keeps_by, other_restarts, other_target}
@@ -51,7 +51,7 @@ use Rattle.pnp_promises.proofs.Excuses.{IsInstall, excused_goes, event_tasks, ta
 use Rattle.pnp_promises.proofs.Lines.{lines_mean_what_they_say}
 use Rattle.pnp_promises.proofs.Skips.{Spares, IsSkip, skipped_spares}
 use Rattle.pnp_promises.specs.AtRest.{IsAtRest}
-use Rattle.pnp_promises.specs.Settled.{AtRestAllAreSettledLaw, IsSettled}
+use Rattle.pnp_promises.specs.Settled.{AllAreSettled, AtRestAllAreSettledLaw, IsSettled, NothingLeft}
 
 -- Where an operation runs ---------------------------------------------------------------------------------------
 
@@ -226,42 +226,46 @@ reached_cared settings rack = kept Cared settings rack (λ old entry new reached
 
 -- At rest -----------------------------------------------------------------------------------------------------------
 
+module _ (settings : Settings) (rack : List Driver) (entries : List Entry) (s : State) (run : Reaches settings rack entries s) (left : NothingLeft s) (k : ℕ) (n : Node) (at : node_at k s.core.nodes ≡ Some n) where
+  idle : FineOf [] None None k n n.state
+  idle =
+      subst (λ (ts : List Task). FineOf ts None None k n n.state) left.done
+      (subst (λ (x : Option Job). FineOf s.tasks None x k n n.state) left.none (subst (λ (acts : List Activity). FineOf s.tasks (activity_at k acts) s.operation k n n.state) left.idle ((reached_cared settings rack s (entries, run)).fine k n at)))
+
+  calm : is_calm n.state ≡ true
+  calm = subst (λ (x : Option Job). OperationFits x s.core.nodes) left.none (reaches_kept settings rack entries s run).good.fits k n at
+
+  never_due : is_due s.tasks s.core.nodes k ≡ false
+  never_due = ap (λ (ts : List Task). is_due ts s.core.nodes k) left.done ∙ no_due (k ∷ Rattle.pnp_model.specs.Trees.above s.core.nodes k)
+
+  -- who was stopped, or holds something and is not up, would be due
+  not_stopped : n.state ≡ Stopped → ⊥
+  not_stopped e = let due = (nobody_is_forgotten settings rack entries s run left.none).stopped k n at e in let never = never_due in cc
+
+  no_stray : n.state ≡ NotStarted → n.holds ≢ [] → ⊥
+  no_stray waits holds = let due = (nobody_is_forgotten settings rack entries s run left.none).strays k n at (record { waits = waits; holds = holds; idle = ap (activity_at k) left.idle }) in let never = never_due in cc
+
+  some_problem : (problem : Option Problem) → problem ≢ None → (p : Problem) × (problem ≡ Some p)
+  some_problem None other = absurd (other refl)
+  some_problem (Some p) other = (p, refl)
+
+  settled_as : (x : DevState) → n.state ≡ x → FineOf [] None None k n x → IsSettled n x
+  settled_as Started e h = h
+  settled_as SurpriseRemoved e h = tt
+  settled_as NoStack e (inl troubled) = some_problem n.problem troubled
+  settled_as NoStack e (inr (inl due)) = absurd (cc)
+  settled_as NoStack e (inr (inr settles)) = absurd settles
+  settled_as NotStarted e (inl (gives, troubled)) = absurd gives
+  settled_as NotStarted e (inr seeks) = elim seeks.sought [ inl holds ↦ no_stray e holds | inr more ↦ elim more [ inl due ↦ absurd (cc) | inr runs ↦ runs ] ]
+  settled_as Stopped e h = absurd (not_stopped e)
+  settled_as StopPending e h = absurd (let c = sym (ap is_calm e) ∙ calm in cc)
+  settled_as RemovePending e h = absurd (let c = sym (ap is_calm e) ∙ calm in cc)
+
+-- where nothing is left to do
+pub nothing_left_settled : (settings : Settings) (rack : List Driver) (entries : List Entry) (s : State) → Reaches settings rack entries s → NothingLeft s → AllAreSettled s
+nothing_left_settled settings rack entries s run left k n at = settled_as settings rack entries s run left k n at n.state refl (idle settings rack entries s run left k n at)
+
 pub at_rest_all_are_settled : AtRestAllAreSettledLaw
-at_rest_all_are_settled settings rack entries s k n run rest at = by_state n.state refl (idle (reached_cared settings rack s (entries, run)).fine)
-  where
-    tasks : s.tasks ≡ []
-    tasks = no_task settings rack entries s run rest
-
-    idle : Fine s → FineOf [] None None k n n.state
-    idle fine =
-        subst (λ (ts : List Task). FineOf ts None None k n n.state) tasks
-        (subst (λ (x : Option Job). FineOf s.tasks None x k n n.state) rest.none (subst (λ (acts : List Activity). FineOf s.tasks (activity_at k acts) s.operation k n n.state) rest.idle (fine k n at)))
-
-    calm : is_calm n.state ≡ true
-    calm = subst (λ (x : Option Job). OperationFits x s.core.nodes) rest.none (reaches_kept settings rack entries s run).good.fits k n at
-
-    -- who holds something and is not up would be due
-    no_stray : n.state ≡ NotStarted → n.holds ≢ [] → ⊥
-    no_stray waits holds =
-        let due = (nobody_is_forgotten settings rack entries s run rest.none).strays k n at (record { waits = waits; holds = holds; idle = ap (activity_at k) rest.idle }) in
-        let never : is_due s.tasks s.core.nodes k ≡ false = ap (λ (ts : List Task). is_due ts s.core.nodes k) tasks ∙ no_due (k ∷ Rattle.pnp_model.specs.Trees.above s.core.nodes k) in
-        cc
-
-    some_problem : (problem : Option Problem) → problem ≢ None → (p : Problem) × (problem ≡ Some p)
-    some_problem None other = absurd (other refl)
-    some_problem (Some p) other = (p, refl)
-
-    by_state : (x : DevState) → n.state ≡ x → FineOf [] None None k n n.state → IsSettled n n.state
-    by_state x e h = subst (λ (y : DevState). IsSettled n y) (sym e) (own x e (subst (λ (y : DevState). FineOf [] None None k n y) e h))
-      where
-        own : (x : DevState) → n.state ≡ x → FineOf [] None None k n x → IsSettled n x
-        own Started e h = h
-        own SurpriseRemoved e h = tt
-        own NoStack e (inl troubled) = some_problem n.problem troubled
-        own NoStack e (inr (inl due)) = absurd (cc)
-        own NoStack e (inr (inr settles)) = absurd settles
-        own NotStarted e (inl (gives, troubled)) = absurd gives
-        own NotStarted e (inr seeks) = elim seeks.sought [ inl holds ↦ no_stray e holds | inr more ↦ elim more [ inl due ↦ absurd (cc) | inr runs ↦ runs ] ]
-        own Stopped e h = absurd ((at_rest_who_has_gone_is_held_open settings rack entries s run rest).none_stopped k n at e)
-        own StopPending e h = absurd (let c = sym (ap is_calm e) ∙ calm in cc)
-        own RemovePending e h = absurd (let c = sym (ap is_calm e) ∙ calm in cc)
+at_rest_all_are_settled settings rack entries s run rest =
+    let left : NothingLeft s = record { none = rest.none; idle = rest.idle; done = no_task settings rack entries s run rest } in
+    record { nothing_left = left; settled = nothing_left_settled settings rack entries s run left }
