@@ -1,5 +1,5 @@
 -- What each state of a run keeps so that at rest each device is up without a problem, down with one, or gone.
-use Rattle.std.proofs.Common.{ℕ, ◌<◌, ◌≡◌, ◌≢◌, ◌⊎◌, ◌==◌, ◌&&◌, ◌||◌, inl, inr, Bool, true, false, List, [], ◌∷◌, ◌++◌, drop, Option, Some, None, Contains, refl, sym, ap, subst, ◌∙◌}
+use Rattle.std.proofs.Common.{ℕ, ◌<◌, ◌≡◌, ◌≢◌, ◌⊎◌, ◌==◌, ◌&&◌, inl, inr, Bool, true, false, List, [], ◌∷◌, ◌++◌, drop, Option, Some, None, Contains, refl, sym, ap, subst}
 use Rattle.std.specs.List.{list_any, slice_get}
 use Rattle.resource_reqs.specs.Resources.{Reqs, Whole}
 use Rattle.pnp_labels.specs.declared.label.OpKind.{OpKind}

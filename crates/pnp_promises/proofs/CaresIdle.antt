@@ -2,45 +2,34 @@
 use Rattle.std.proofs.Common.{ℕ, ◌≡◌, ◌≢◌, ◌⊎◌, ◌==◌, ◌&&◌, inl, inr, Bool, true, false, List, [], ◌∷◌, ◌++◌, drop, Option, Some, None, refl, sym, ap, subst, ◌∙◌, arith, reverse, if◌then◌else◌}
 use Rattle.std.proofs.lemmas.Bool.{cases_eq}
 use Rattle.std.proofs.lemmas.Bool.Decides.{nat_tests}
-use Rattle.std.specs.List.{find, list_any, slice_get}
+use Rattle.std.specs.List.{list_any, slice_get}
 use Rattle.std.specs.Option.{option_map}
-use Rattle.resource_reqs.specs.Resources.{Reqs, Whole, Fits}
-use Rattle.resource_reqs.specs.Spelling.Answer.{assignment, no_fit, spent}
+use Rattle.resource_reqs.specs.Resources.{Reqs, Whole}
 use Rattle.pnp_labels.specs.declared.label.Label.{Label}
 use Rattle.pnp_labels.specs.declared.label.OpKind.{OpKind}
-use Rattle.pnp_labels.specs.declared.label.TaskKind.{TaskKind}
 use Rattle.pnp_labels.specs.declared.states.DevState.{DevState}
 use Rattle.pnp_labels.specs.declared.states.DevState.TheVariants.{NoStack, NotStarted, Started, StopPending, Stopped, RemovePending, SurpriseRemoved}
 use Rattle.pnp_labels.specs.declared.states.Problem.{Problem}
-use Rattle.pnp_labels.specs.declared.words.AskWhat.{AskWhat}
-use Rattle.pnp_labels.specs.declared.words.Answer.{Answer}
 use Rattle.pnp_labels.specs.declared.words.Minor.{Minor}
-use Rattle.pnp_model.specs.Books.{driver_named, name_of, rack_reply}
-use Rattle.pnp_model.specs.Cores.{bare, is_node, node_at, serials_of, set_problem, stacked, with_holds, with_problem, with_stack, with_state}
-use Rattle.pnp_model.specs.Frames.{core_after}
+use Rattle.pnp_model.specs.Cores.{bare, is_node, node_at, serials_of, stacked, with_holds, with_problem, with_stack, with_state}
 use Rattle.pnp_model.specs.Jobs.{each_gets, job_of, stands}
 use Rattle.pnp_model.specs.Keyed.{changed_first, those}
 use Rattle.pnp_model.specs.Machine as ma
 use Rattle.pnp_model.specs.Rebalances as re
-use Rattle.pnp_model.specs.Surprises as su
-use Rattle.pnp_model.specs.Records.{Activity, Choice, Core, Course, Device, Driver, Duty, Found, Job, Node, Phase, Settings, Stage, State, Step, Task, Walk, course_of, doing_map}
-use Rattle.pnp_model.specs.Records.Doing.{Does}
-use Rattle.pnp_model.specs.Runs.{Entry, Goes}
-use Rattle.pnp_model.specs.Runs.Entry.{Did}
+use Rattle.pnp_model.specs.Records.{Activity, Course, Duty, Job, Node, Phase, Stage, State, Step, Task, course_of}
 use Rattle.pnp_model.specs.Starts as st
 use Rattle.pnp_model.specs.Starts.{own_part}
 use Rattle.pnp_model.specs.States.{activity_at, device_born, entered, is_activity, with_phase}
 use Rattle.pnp_model.specs.Tasks as tk
-use Rattle.pnp_model.specs.Tests.{has, has_same, task_word}
-use Rattle.pnp_model.specs.Walks.{has_ended, is_bad, state_after, walk_of}
-use Rattle.pnp_laws.specs.Effects.{Acting, BeginsFor, IsSearch, begun, required}
+use Rattle.pnp_model.specs.Walks.{walk_of}
+use Rattle.pnp_laws.specs.Effects.{Acting, IsSearch, begun, required}
 use Rattle.pnp_laws.specs.Kept.{Fits as PhaseFits, is_idle}
 use Rattle.pnp_laws.proofs.EffectViews.{acting_at, acting_fits}
 use Rattle.pnp_laws.proofs.EffectsOfOperations.{begun_work}
 use Rattle.pnp_laws.proofs.IdleSteps.{ActivityStep, TaskStep}
-use Rattle.pnp_laws.proofs.Lookups.{ended_other, ended_same, entered_other, entered_same, joined_from, node_from, own_serial, phase_set_other, phase_set_same, some_same}
+use Rattle.pnp_laws.proofs.Lookups.{ended_other, ended_same, entered_other, entered_same, joined_from, node_from, phase_set_other, phase_set_same, some_same}
 use Rattle.pnp_laws.proofs.RunsStand.{Kept}
-use Rattle.pnp_promises.proofs.Cares.{FineOf, Fine, GivesUp, IsTarget, Onward, Open, OpenIn, Restarts, RestartsIn, Seeks, Settles, Undriven, UnlessUndone, Unstarted, any_drop, any_last, any_pushed, fine_as, fine_back, fine_bare, fine_up, makes_room, onward, starts}
+use Rattle.pnp_promises.proofs.Cares.{FineOf, Fine, GivesUp, IsTarget, Onward, Open, OpenIn, Restarts, RestartsIn, Settles, Undriven, UnlessUndone, any_drop, any_last, any_pushed, fine_as, fine_back, fine_bare, makes_room, onward, starts}
 
 -- Lists of tasks ------------------------------------------------------------------------------------------
 

@@ -1,5 +1,5 @@
 -- In a rebalance or a change nobody is left without a problem or without a start.
-use Rattle.std.proofs.Common.{ℕ, ◌≡◌, ◌≢◌, ◌⊎◌, ◌==◌, ◌&&◌, inl, inr, Bool, true, false, List, [], ◌∷◌, ◌++◌, drop, map, reverse, Option, Some, None, refl, sym, ap, subst, ◌∙◌, arith, if◌then◌else◌}
+use Rattle.std.proofs.Common.{ℕ, ◌≡◌, ◌≢◌, ◌⊎◌, inl, inr, Bool, true, false, List, [], ◌∷◌, map, reverse, Option, Some, None, refl, sym, ap, subst, ◌∙◌, arith, if◌then◌else◌}
 use Rattle.std.proofs.lemmas.Bool.{cases_eq}
 use Rattle.std.proofs.lemmas.Bool.Decides.{nat_tests}
 use Rattle.std.specs.List.{list_any}
@@ -10,41 +10,31 @@ use Rattle.pnp_labels.specs.declared.states.DevState.{DevState}
 use Rattle.pnp_labels.specs.declared.states.DevState.TheVariants.{NoStack, NotStarted, Started, StopPending, Stopped, RemovePending, SurpriseRemoved}
 use Rattle.pnp_labels.specs.declared.states.Problem.{Problem}
 use Rattle.pnp_labels.specs.declared.words.Minor.{Minor}
-use Rattle.pnp_labels.specs.declared.label.Label.{Label}
-use Rattle.pnp_labels.specs.declared.label.OpEnd.{OpEnd}
-use Rattle.pnp_model.specs.Cores.{bare, is_node, node_at, stack_of, with_problem, with_state}
+use Rattle.pnp_model.specs.Cores.{is_node, node_at, with_problem, with_state}
 use Rattle.pnp_model.specs.Frames.{ended, first_node, rest}
-use Rattle.pnp_model.specs.Finishes as fi
-use Rattle.pnp_model.specs.Jobs.{Beside, JobMove, begins, each_gets, stands}
-use Rattle.pnp_model.specs.Keyed.{changed_first, those, without_first}
+use Rattle.pnp_model.specs.Jobs.{Beside, JobMove, each_gets, stands}
+use Rattle.pnp_model.specs.Keyed.{changed_first, those}
 use Rattle.pnp_model.specs.Machine as ma
 use Rattle.pnp_model.specs.Rebalances as re
 use Rattle.pnp_model.specs.Rebalances.{committed, movers, others, part_for, plan_of, startable}
-use Rattle.pnp_model.specs.Records.{Activity, Core, Course, Duty, Found, Job, Node, Phase, Stage, State, Step, Task, Walk, course_of}
-use Rattle.pnp_model.specs.Removals as rm
-use Rattle.pnp_model.specs.States.{activity_at, set_operation, with_core}
-use Rattle.pnp_model.specs.Surprises as su
+use Rattle.pnp_model.specs.Records.{Activity, Course, Found, Job, Node, Phase, Stage, State, course_of}
+use Rattle.pnp_model.specs.States.{activity_at}
 use Rattle.pnp_model.specs.Tests.{has}
 use Rattle.pnp_model.specs.Trees.{stands_up}
-use Rattle.pnp_model.specs.Walks.{state_after, walk_of}
-use Rattle.pnp_laws.specs.Effects.{Turn}
-use Rattle.pnp_laws.specs.Holdings.{WholeAt, has_plan}
-use Rattle.pnp_laws.specs.Kept.{OperationFits, RebalanceAsks, RebalanceKeeps, RemovalKeeps, SurpriseKeeps, FinishKeeps, TargetFits, Within, Distinct, pending_state, rebalance_state}
-use Rattle.pnp_laws.specs.Plans.{IsPlanned, StagePlan}
-use Rattle.pnp_laws.proofs.EffectsOfOperations.{SameFrame, fi_settle_on, re_ask_on, re_cancel_on, re_restart, re_stop_on, rm_ask_on, rm_cancel_on, rm_finish_on, su_finish_on, su_tell_on}
-use Rattle.pnp_laws.proofs.Finishing.{Listed, OnlyTasks, head_bare, head_same, relist_only}
-use Rattle.pnp_laws.proofs.FinishingSteps.{head_emptied}
-use Rattle.pnp_laws.proofs.Lists.{HeadIs, has_cases, head_found, head_has, not_head, rest_has, rest_not, rest_within, without_has}
-use Rattle.pnp_laws.proofs.Lookups.{entered_other, entered_same, left_from, map_from, node_from, own_serial, some_same}
+use Rattle.pnp_model.specs.Walks.{walk_of}
+use Rattle.pnp_laws.specs.Holdings.{has_plan}
+use Rattle.pnp_laws.specs.Kept.{RebalanceAsks, RebalanceKeeps, TargetFits, rebalance_state}
+use Rattle.pnp_laws.specs.Plans.{StagePlan}
+use Rattle.pnp_laws.proofs.EffectsOfOperations.{re_ask_on, re_cancel_on, re_restart, re_stop_on}
+use Rattle.pnp_laws.proofs.Lists.{HeadIs, head_found, head_has, rest_not, rest_within, without_has}
+use Rattle.pnp_laws.proofs.Lookups.{entered_other, entered_same, map_from, own_serial, some_same}
 use Rattle.pnp_laws.proofs.OpSteps.{change_up}
-use Rattle.pnp_laws.proofs.RebalanceRuns.{after_core}
 use Rattle.pnp_laws.proofs.RebalanceSteps.{head_pending, head_started, head_stopped, head_stopping, startable_has}
-use Rattle.pnp_laws.proofs.RemovalSteps.{head_querying, head_refusing, head_restoring}
 use Rattle.pnp_laws.proofs.Sharing.{part_not}
-use Rattle.pnp_laws.proofs.Stages.{Asks, Ends, FinishAct, FinishStep, OperationStep, RebalanceAct, RebalanceStep, RemovalAct, RemovalStep, SurpriseAct, SurpriseStep, asking, ended_by, held}
-use Rattle.pnp_promises.proofs.Cares.{Failed, FineOf, Fine, GivesUp, GivesUpIn, IsTarget, IsTargetIn, Onward, Open, OpenIn, Restarts, RestartsIn, Seeks, Settles, SettlesIn, Undriven, Unstarted, any_pushed, fine_as, fine_back, fine_bare, fine_up, is_risen, makes_room, onward, starts}
+use Rattle.pnp_laws.proofs.Stages.{RebalanceAct, RebalanceStep, ended_by, held}
+use Rattle.pnp_promises.proofs.Cares.{FineOf, Fine, GivesUp, GivesUpIn, IsTarget, IsTargetIn, OpenIn, Restarts, RestartsIn, Seeks, SettlesIn, Unstarted, fine_as, fine_back, fine_up, is_risen, makes_room, onward}
 use Rattle.pnp_promises.proofs.CaresOperations.{FineJob, Keeps, SameGoal, gives_target, goal_of, goes_on, keeps_by, one, restarts_in, stays, target_on}
-use Rattle.pnp_promises.proofs.CaresIdle.{ask_open, ask_restarts, cancel_open, cancel_restarts, open_by, open_other}
+use Rattle.pnp_promises.proofs.CaresIdle.{ask_open, ask_restarts, cancel_open, cancel_restarts, open_by}
 
 module _ (s : State) (order : Rattle.pnp_laws.specs.Kept.Ascending 0 s.core.nodes) (alone : s.activities ≡ []) where
   module _ (o : Job) (old : FineJob s order alone o s.core.nodes) (course : course_of o.kind ≡ Course.Rebalancing) (keeps : RebalanceKeeps o o.stage s.core.nodes) (plan : StagePlan o o.stage s.core.reserved s.core.nodes) where

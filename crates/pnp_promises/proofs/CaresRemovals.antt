@@ -1,9 +1,9 @@
 -- In a disable, an eject, a surprise removal and a finish nobody is left without a problem.
-use Rattle.std.proofs.Common.{ℕ, ◌≡◌, ◌≢◌, ◌⊎◌, ◌==◌, inl, inr, Bool, true, false, List, [], ◌∷◌, Option, Some, None, refl, sym, ap, subst, ◌∙◌, arith}
+use Rattle.std.proofs.Common.{ℕ, ◌≡◌, ◌≢◌, ◌==◌, inl, inr, Bool, true, false, [], ◌∷◌, Option, Some, None, refl, sym, ap, subst, ◌∙◌, arith}
 use Rattle.std.proofs.lemmas.Bool.{cases_eq}
 use Rattle.std.proofs.lemmas.Bool.Decides.{nat_tests}
 use Rattle.pnp_labels.specs.declared.states.DevState.{DevState}
-use Rattle.pnp_labels.specs.declared.states.DevState.TheVariants.{NoStack, NotStarted, Started, StopPending, Stopped, RemovePending, SurpriseRemoved}
+use Rattle.pnp_labels.specs.declared.states.DevState.TheVariants.{NoStack, Started, RemovePending, SurpriseRemoved}
 use Rattle.pnp_labels.specs.declared.states.Problem.{Problem}
 use Rattle.pnp_labels.specs.declared.label.Label.{Label}
 use Rattle.pnp_labels.specs.declared.words.Minor.{Minor}
@@ -13,13 +13,11 @@ use Rattle.pnp_model.specs.Frames.{first_node, rest}
 use Rattle.pnp_model.specs.Jobs.{Beside, JobMove, stands}
 use Rattle.pnp_model.specs.Keyed.{changed_first, without_first}
 use Rattle.pnp_model.specs.Machine as ma
-use Rattle.pnp_model.specs.Records.{Activity, Course, Job, Node, Stage, State, Step, course_of}
+use Rattle.pnp_model.specs.Records.{Activity, Course, Job, Node, Stage, State, course_of}
 use Rattle.pnp_model.specs.Removals as rm
 use Rattle.pnp_model.specs.States.{activity_at, is_in_world}
 use Rattle.pnp_model.specs.Surprises as su
 use Rattle.pnp_model.specs.Tests.{has}
-use Rattle.pnp_model.specs.Walks.{state_after}
-use Rattle.pnp_laws.specs.Effects.{Turn}
 use Rattle.pnp_laws.specs.Kept.{Ascending, FinishKeeps, RemovalKeeps, SurpriseKeeps, finish_state, removal_state, surprise_state}
 use Rattle.pnp_laws.proofs.EffectsOfOperations.{fi_settle_on, rm_ask_on, rm_cancel_on, rm_finish_on, su_finish_on, su_tell_on}
 use Rattle.pnp_laws.proofs.Finishing.{head_bare, head_same}
@@ -28,7 +26,7 @@ use Rattle.pnp_laws.proofs.Lists.{HeadIs, head_found, head_has}
 use Rattle.pnp_laws.proofs.Lookups.{some_same}
 use Rattle.pnp_laws.proofs.RemovalSteps.{head_querying, head_refusing, head_restoring}
 use Rattle.pnp_laws.proofs.Stages.{FinishAct, FinishStep, RemovalAct, RemovalStep, SurpriseAct, SurpriseStep, ended_by, held}
-use Rattle.pnp_promises.proofs.Cares.{FineOf, Fine, Onward, Settles, SettlesIn, Undriven, fine_as, fine_back, fine_bare, fine_up, is_risen, onward}
+use Rattle.pnp_promises.proofs.Cares.{FineOf, Fine, Onward, Settles, SettlesIn, Undriven, fine_as, fine_bare, fine_up, is_risen, onward}
 use Rattle.pnp_promises.proofs.CaresIdle.{open_other}
 use Rattle.pnp_promises.proofs.CaresOperations.{FineJob, gives_target, goes_on, keeps_by, left, one, other_restarts, other_target, stays}
 

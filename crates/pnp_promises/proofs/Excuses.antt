@@ -1,9 +1,8 @@
 -- Surprise removals, those that wait and the one that runs, are of devices that have gone, or that have a problem.
-use Rattle.std.proofs.Common.{ℕ, suc, ◌+◌, ◌<◌, ◌≤◌, ◌≡◌, ◌≢◌, ◌⊎◌, ◌==◌, ◌||◌, ◌&&◌, not, inl, inr, Bool, true, false, cond, List, [], ◌∷◌, ◌++◌, drop, Option, Some, None, Contains, refl, sym, ap, subst, ◌∙◌, arith}
-use Rattle.std.proofs.lemmas.Bool.{cases_eq}
+use Rattle.std.proofs.Common.{ℕ, ◌+◌, ◌<◌, ◌≡◌, ◌≢◌, ◌⊎◌, ◌==◌, ◌&&◌, not, inl, inr, Bool, true, false, cond, List, [], ◌∷◌, ◌++◌, drop, Option, Some, None, Contains, refl, sym, ap, subst, ◌∙◌, arith}
 use Rattle.std.proofs.lemmas.Bool.Decides.{nat_tests}
 use Rattle.std.proofs.lemmas.List.Elements.{Contains-append_cases}
-use Rattle.std.specs.List.{find, list_any, slice_get}
+use Rattle.std.specs.List.{list_any, slice_get}
 use Rattle.resource_reqs.specs.Resources.{Reqs}
 use Rattle.resource_reqs.specs.Spelling.Answer.{assignment, no_fit, spent}
 use Rattle.resource_reqs.proofs.Counts.{contains_cons, contains_nil}
@@ -13,26 +12,25 @@ use Rattle.pnp_labels.specs.declared.label.Label.{Label}
 use Rattle.pnp_labels.specs.declared.label.OpKind.{OpKind}
 use Rattle.pnp_labels.specs.declared.states.Problem.{Problem}
 use Rattle.pnp_labels.specs.declared.words.Minor.{Minor}
-use Rattle.pnp_model.specs.Cores.{is_node, node_at, with_problem}
+use Rattle.pnp_model.specs.Cores.{node_at, with_problem}
 use Rattle.pnp_model.specs.Events as ev
 use Rattle.pnp_model.specs.Frames.{first_node, rest}
-use Rattle.pnp_model.specs.Jobs.{Beside, JobMove, each_gets}
+use Rattle.pnp_model.specs.Jobs.{Beside, JobMove}
 use Rattle.pnp_model.specs.Keyed.{changed_first, those}
 use Rattle.pnp_model.specs.Laws.{Reaches}
 use Rattle.pnp_model.specs.Machine as ma
-use Rattle.pnp_model.specs.Rebalances as re
 use Rattle.pnp_model.specs.Records.{Course, Device, Driver, Duty, Found, Job, Node, Phase, Settings, Stage, State, Step, Task, course_of}
 use Rattle.pnp_model.specs.Runs.{Entry, Goes, printed}
 use Rattle.pnp_model.specs.Runs.Entry.{Happens, Did, Declines}
 use Rattle.pnp_model.specs.Starts as st
-use Rattle.pnp_model.specs.States.{is_in_world, node_born, node_of, requires, set_operation, unplug, with_core, without_those}
+use Rattle.pnp_model.specs.States.{is_in_world, requires, set_operation, unplug, with_core, without_those}
 use Rattle.pnp_model.specs.Surprises as su
 use Rattle.pnp_model.specs.Tasks as tk
 use Rattle.pnp_model.specs.Tests.{is_surprise_removed, is_surprise_task}
-use Rattle.pnp_model.specs.Trees.{children, leaving}
-use Rattle.pnp_laws.specs.Effects.{Effect, OpEffect, Origin, TaskEffect, TasksEffect, Turn, WorldEffect, begun}
+use Rattle.pnp_model.specs.Trees.{leaving}
+use Rattle.pnp_laws.specs.Effects.{Effect, OpEffect, Origin, TaskEffect, Turn, WorldEffect, begun}
 use Rattle.pnp_laws.specs.Kept.{IsOwn, OperationFits, asked_in}
-use Rattle.pnp_laws.specs.Words.{IsWord, joined}
+use Rattle.pnp_laws.specs.Words.{IsWord}
 use Rattle.pnp_model.proofs.Due.{due_is_first}
 use Rattle.pnp_laws.proofs.EffectViews.{origin}
 use Rattle.pnp_laws.proofs.EffectViews as views
@@ -294,7 +292,7 @@ module _ (s : State) (kept : Kept s) (r : Job) (runs : s.operation ≡ Some r) (
 
 -- A surprise removal is for one device ------------------------------------------------------------------------------------
 
-after_frame : (j : Job) (beside : Beside) (s : State) (p : Job) → (ma.after_job j beside s).operation ≡ Some p → j ≡ p
+pub after_frame : (j : Job) (beside : Beside) (s : State) (p : Job) → (ma.after_job j beside s).operation ≡ Some p → j ≡ p
 after_frame j Beside.On s p e = cc
 after_frame j (Beside.Left path born) s p e = let only = (relist_only path born (set_operation (Some j) s)).operation in cc
 after_frame j (Beside.Disabled path) s p e = cc

@@ -29,5 +29,5 @@ mod CaresOperations
 mod CaresRebalances
 mod CaresRemovals
 mod Skips
-mod Excuses
+pub mod Excuses
 pub mod Settled

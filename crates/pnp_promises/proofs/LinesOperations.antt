@@ -223,7 +223,7 @@ module _ (settings : Settings) (s : State) (order : Ascending 0 s.core.nodes) wh
 
     removal_ends : (refused : List ℕ) → o.refused ≡ refused → P (ma.job_lifted s (jobs.closes s.core o (rm.end_of s.core refused) Beside.Over))
     removal_ends [] e = ended o running Course.Removing OpEnd.Done _ course refl (inl (e, refl))
-    removal_ends (q ∷ qs) e = ended o running Course.Removing _ _ course refl (inr (q, qs, e, refl))
+    removal_ends (q ∷ qs) e = ended o running Course.Removing _ _ course refl (inr (q, qs, path_of (node_at q s.core.nodes), e, refl))
 
     module _ (n : Node) (at : node_at n.serial s.core.nodes ≡ Some n) where
       unasked : rm.refuses_unasked s.handles n ≡ true → (is_open s.handles n.serial ≡ true) ⊎ (n.state ≡ SurpriseRemoved)
@@ -345,7 +345,7 @@ module _ (settings : Settings) (s : State) (order : Ascending 0 s.core.nodes) wh
     rebalance_means _ _ course is busy RebalanceAct.commits = record { operation = o; ran = running; course = course; wanted = commit_wants; others = commit_others }
     rebalance_means _ _ course is busy (RebalanceAct.failed n first) = IsTrouble.of n (head_found s.core.nodes o.todo n first).1 refl refl (Because.restart o running course refl)
     rebalance_means _ _ course is busy RebalanceAct.closes =
-        ended o running Course.Rebalancing (re.result o.found (re.has_refused o)) _ course (closes_over (Label.Gone []) (re.over s.core o o.found o.wanted) (over_closes o.found o.wanted)) (found_so o.found (re.has_refused o) refl refl)
+        ended o running Course.Rebalancing (re.result o.found (re.has_refused o)) _ course (closes_over (Label.Gone []) (re.over s.core o o.found o.wanted) (over_closes o.found o.wanted)) tt
 
     surprise_ends : (behind : List ℕ) → course_of o.kind ≡ Course.Surprising → o.behind ≡ behind → P (ma.job_lifted s (jobs.closes s.core o (su.end_of behind) Beside.Over))
     surprise_ends [] course e = ended o running Course.Surprising OpEnd.Done _ course refl (inl (e, refl))

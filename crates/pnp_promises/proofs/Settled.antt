@@ -1,14 +1,11 @@
 -- At rest each device is up without a problem, down with one, or gone.
-use Rattle.std.proofs.Common.{ℕ, ◌+◌, ◌<◌, ◌≡◌, ◌≢◌, ◌⊎◌, ◌==◌, inl, inr, Bool, true, false, List, [], ◌∷◌, ◌++◌, drop, Option, Some, None, Contains, refl, sym, ap, subst, ◌∙◌, arith}
+use Rattle.std.proofs.Common.{ℕ, ◌≡◌, ◌≢◌, ◌⊎◌, inl, inr, Bool, true, false, List, [], ◌∷◌, Option, Some, None, refl, sym, ap, subst, ◌∙◌}
 use Rattle.std.proofs.lemmas.Bool.{cases_eq}
-use Rattle.std.proofs.lemmas.Bool.Decides.{nat_tests}
-use Rattle.std.proofs.lemmas.List.Elements.{Contains-append_cases}
-use Rattle.std.specs.List.{list_any, slice_get}
+use Rattle.std.specs.List.{list_any}
 use Rattle.std.specs.Option.{option_map}
 use Rattle.resource_reqs.specs.Resources.{Reqs, Res, Whole, Fits}
-use Rattle.resource_reqs.proofs.Counts.{contains_cons, contains_nil}
+use Rattle.resource_reqs.proofs.Counts.{contains_nil}
 use Rattle.pnp_labels.specs.declared.event.Event.{Event}
-use Rattle.pnp_labels.specs.declared.deed.Deed.{Deed}
 use Rattle.pnp_labels.specs.declared.label.Label.{Label}
 use Rattle.pnp_labels.specs.declared.label.OpKind.{OpKind}
 use Rattle.pnp_labels.specs.declared.states.DevState.{DevState}
@@ -19,38 +16,36 @@ use Rattle.pnp_model.specs.Events as ev
 use Rattle.pnp_model.specs.Laws.{Reaches}
 use Rattle.pnp_model.specs.Machine as ma
 use Rattle.pnp_model.specs.Records.{Activity, Course, Driver, Duty, Job, Node, Phase, Settings, State, Step, Task, course_of}
-use Rattle.pnp_model.specs.Runs.{Entry, Goes, opening, printed}
+use Rattle.pnp_model.specs.Runs.{Entry, Goes, opening}
 use Rattle.pnp_model.specs.Runs.Entry.{Happens, Did, Declines}
 use Rattle.pnp_model.specs.States.{activity_at, is_activity, with_phase}
-use Rattle.pnp_model.specs.Tests.{has}
 use Rattle.pnp_model.proofs.Due.{due_is_first}
 use Rattle.pnp_laws.specs.Due.{is_due}
 use Rattle.pnp_laws.specs.Effects.{AnswerEffect, Turn}
-use Rattle.pnp_laws.specs.Kept.{Fits as PhaseFits, OperationFits, is_calm}
+use Rattle.pnp_laws.specs.Kept.{OperationFits, is_calm}
 use Rattle.pnp_laws.specs.Plans.{IsPlanned}
 use Rattle.pnp_laws.specs.Reached.{IsReached}
 use Rattle.pnp_laws.proofs.Due.{no_due}
 use Rattle.pnp_laws.proofs.EffectsOf.{effect_goes}
 use Rattle.pnp_promises.proofs.Fitting.{fits_by, plan_by}
 use Rattle.pnp_laws.proofs.IdleSteps.{MachineStep, machine_step}
-use Rattle.pnp_laws.proofs.Lookups.{own_serial, phase_from, some_same}
+use Rattle.pnp_laws.proofs.Lookups.{some_same}
 use Rattle.pnp_laws.proofs.PlansKept.{reached_is_planned}
-use Rattle.pnp_laws.proofs.Reaching.{kept, reached_on}
+use Rattle.pnp_laws.proofs.Reaching.{kept}
 use Rattle.pnp_laws.proofs.Runs.{root_is}
 use Rattle.pnp_laws.proofs.RunsStand.{Kept, reaches_kept}
 use Rattle.pnp_laws.proofs.RunsStrays.{nobody_is_forgotten}
-use Rattle.pnp_laws.proofs.Stages.{JobStep, OperationStep, own_step}
+use Rattle.pnp_laws.proofs.Stages.{OperationStep, own_step}
 use Rattle.pnp_laws.proofs.Turns.{running_good}
 use Rattle.pnp_promises.proofs.AtRest.{no_task}
-use Rattle.pnp_promises.proofs.Cares.{Cared, Failed, FineOf, Fine, GivesUp, IsTarget, Onward, Open, Restarts, Settles, TargetFine, TargetIn, Undriven, UnlessUndone, Unstarted, any_pushed, makes_room, onward, starts}
+use Rattle.pnp_promises.proofs.Cares.{Cared, FineOf, Fine, Onward, TargetFine, TargetIn, UnlessUndone, any_pushed, makes_room, onward, starts}
 use Rattle.pnp_promises.proofs.CaresIdle.{drops, start_fine, task_fine}
-use Rattle.pnp_promises.proofs.CaresOperations.{FineJob, gives_target, keeps_by, other_restarts, other_target}
+use Rattle.pnp_promises.proofs.CaresOperations.{FineJob}
 use Rattle.pnp_promises.proofs.CaresRebalances.{rebalance_fine}
 use Rattle.pnp_promises.proofs.CaresRemovals.{finish_fine, plain, removal_fine, surprise_fine}
-use Rattle.pnp_promises.proofs.Excuses.{IsInstall, excused_goes, event_tasks, target_goes}
+use Rattle.pnp_promises.proofs.Excuses.{excused_goes, event_tasks, target_goes}
 use Rattle.pnp_promises.proofs.Lines.{lines_mean_what_they_say}
 use Rattle.pnp_promises.proofs.Skips.{Spares, IsSkip, skipped_spares}
-use Rattle.pnp_promises.specs.AtRest.{IsAtRest}
 use Rattle.pnp_promises.specs.Settled.{AllAreSettled, AtRestAllAreSettledLaw, IsSettled, NothingLeft}
 
 -- Where an operation runs ---------------------------------------------------------------------------------------
@@ -124,9 +119,10 @@ module _ (settings : Settings) (rack : List Driver) (entries : List Entry) (s : 
   by_machine step is (MachineStep.does _ none does) =
       task_fine s was none cared.fine step does
       (λ kind i j first same k n at idle own.
-      let spares : Spares s (record { kind = kind; serial = i }) = skipped_spares settings s none (record { kind = kind; serial = i }) first step is (subst (λ (x : Step). IsSkip x.label) (sym same) tt) in
-      ((λ e bare. spares.starts e n (subst (λ (x : ℕ). node_at x s.core.nodes ≡ Some n) (sym own) at) (subst (λ (x : ℕ). activity_at x s.activities ≡ None) (sym own) idle) bare),
-      (λ e waits. spares.rooms e n (subst (λ (x : ℕ). node_at x s.core.nodes ≡ Some n) (sym own) at) (subst (λ (x : ℕ). activity_at x s.activities ≡ None) (sym own) idle) waits)))
+      let spares : Spares s (record { kind = kind; serial = i }) = skipped_spares settings s none (record { kind = kind; serial = i }) first step is (subst (λ (x : Step). IsSkip x.label) (sym same) tt) in (
+        (λ e bare. spares.starts e n (subst (λ (x : ℕ). node_at x s.core.nodes ≡ Some n) (sym own) at) (subst (λ (x : ℕ). activity_at x s.activities ≡ None) (sym own) idle) bare),
+        (λ e waits. spares.rooms e n (subst (λ (x : ℕ). node_at x s.core.nodes ≡ Some n) (sym own) at) (subst (λ (x : ℕ). activity_at x s.activities ≡ None) (sym own) idle) waits),
+      ))
 
   -- a client declines what is due
   declined_fine : (label : Label) (t : State) → ma.IsDeclined s label t → Fine t

@@ -1,7 +1,6 @@
 -- What the lines of the output say is so: of each line, what it means of the state before and after it.
 use Rattle.std.specs.Prelude.{ℕ, ◌+◌, ◌≡◌, ◌≢◌, ◌<◌, ◌⊎◌, ◌↔◌, true, false, List, [], ◌∷◌, ◌++◌, Some, None, Contains, drop, length, slice_get}
 use Rattle.resource_reqs.specs.Resources.{AltList, Fits, Reqs, Res, Whole}
-use Rattle.resource_reqs.specs.Spelling.Answer.{no_fit, spent}
 use Rattle.pnp_labels.specs.Texts.{Text}
 use Rattle.pnp_labels.specs.declared.label.Label.{Label}
 use Rattle.pnp_labels.specs.declared.label.OpEnd.{OpEnd}
@@ -11,12 +10,11 @@ use Rattle.pnp_labels.specs.declared.states.DevState.TheVariants.{NoStack, NotSt
 use Rattle.pnp_labels.specs.declared.states.Problem.{Problem}
 use Rattle.pnp_labels.specs.declared.words.Minor.{Minor}
 use Rattle.pnp_model.specs.Books.{driver_named, name_of}
-use Rattle.pnp_model.specs.Cores.{is_node, node_at, path_of, with_holds, with_problem}
+use Rattle.pnp_model.specs.Cores.{is_node, node_at, with_holds, with_problem}
 use Rattle.pnp_model.specs.Frames.{fixed_beside}
 use Rattle.pnp_model.specs.Handles.{is_open, is_ready_device}
 use Rattle.pnp_model.specs.Keyed.{changed_first}
 use Rattle.pnp_model.specs.Laws.{Reaches}
-use Rattle.pnp_model.specs.Rebalances.{has_refused}
 use Rattle.pnp_model.specs.Records.{Activity, Choice, Course, Device, Driver, Duty, Job, Node, Phase, Settings, Stage, State, course_of}
 use Rattle.pnp_model.specs.Runs.{Entry, Goes}
 use Rattle.pnp_model.specs.Runs.Entry.{Did}
@@ -27,7 +25,6 @@ use Rattle.pnp_model.specs.Tests.{has, has_same}
 use Rattle.pnp_model.specs.Trees.{dependents}
 use Rattle.pnp_model.specs.Walks.{walk_of}
 use Rattle.pnp_laws.specs.Effects.{Running}
-use Rattle.pnp_laws.specs.Holdings.{has_plan}
 use Rattle.pnp_promises.specs.Accepted.{task}
 
 -- the device of this path
@@ -209,21 +206,13 @@ pub record Committed (s t : State) : Type 0 where
 
 -- `end`: what was done --------------------------------------------------------------------------------
 
--- what was found for the device of a rebalance or a change, where that of a change agreed to stop; or that it did not
-abbrev pub FoundSo : Job → OpEnd → Type 0
-FoundSo r OpEnd.Moved = (has_refused r ≡ false) × (has_plan r.found ≡ true)
-FoundSo r OpEnd.NoFit = (has_refused r ≡ false) × (r.found ≡ no_fit)
-FoundSo r OpEnd.Spent = (has_refused r ≡ false) × (r.found ≡ spent)
-FoundSo r OpEnd.Refused = has_refused r ≡ true
-FoundSo r _ = ⊥
-
--- a finish ends when nobody is ready; a removal in order with a veto just where one refused, whose path is told;
--- a surprise removal with `waiting` just where one stayed behind; a rebalance or a change by what was found
+-- a finish ends when nobody is ready; a removal in order with a veto just where one refused, which is named;
+-- a surprise removal with `waiting` just where one stayed behind
 abbrev pub EndsSo : State → Job → Course → OpEnd → Type 0
 EndsSo s o Course.Finishing result = (result ≡ OpEnd.Done) × ((k : ℕ) (n : Node) → node_at k s.core.nodes ≡ Some n → is_ready_device s.core s.handles n ≡ true → ⊥)
-EndsSo s o Course.Removing result = ((o.refused ≡ []) × (result ≡ OpEnd.Done)) ⊎ ((q : ℕ) × (qs : List ℕ) × (o.refused ≡ q ∷ qs) × (result ≡ OpEnd.Veto (path_of (node_at q s.core.nodes))))
+EndsSo s o Course.Removing result = ((o.refused ≡ []) × (result ≡ OpEnd.Done)) ⊎ ((q : ℕ) × (qs : List ℕ) × (refuser : Text) × (o.refused ≡ q ∷ qs) × (result ≡ OpEnd.Veto refuser))
 EndsSo s o Course.Surprising result = ((o.behind ≡ []) × (result ≡ OpEnd.Done)) ⊎ ((o.behind ≢ []) × (result ≡ OpEnd.Waiting))
-EndsSo s o Course.Rebalancing result = FoundSo o result
+EndsSo s o Course.Rebalancing result = Unit {0}
 
 pub record Ended (s : State) (kind : OpKind) (path : Text) (result : OpEnd) (t : State) : Type 0 where
   pub operation : Job
