@@ -46,6 +46,7 @@ use Rattle.pnp_promises.proofs.Named.{only_the_named_device_changes}
 use Rattle.pnp_promises.proofs.Pended.{what_is_pended_waits}
 use Rattle.pnp_promises.proofs.Relations.{relations_go_with_drivers}
 use Rattle.pnp_promises.proofs.Searches.{searches_keep_the_budget}
+use Rattle.pnp_promises.proofs.Settled.{nothing_left_settled}
 use Rattle.pnp_promises.proofs.TreeOrder.{tree_stands}
 use Rattle.client_promises.proofs.Notices.{notices_have_causes}
 use Rattle.client_promises.proofs.Registering.{client_causes_are_exact, clients_are_registered, registrations_are_the_clients}
@@ -316,7 +317,7 @@ pub output_ends_told : (words : List Text) (contents : Option (Text → Option (
 unfolding Holds
 output_ends_told words contents rack =
     of_output (EachState EndIsSo) rack
-    (λ settings script report text shows entries last told s state. (end_tells_what_is settings rack state.earlier s state.before, tree_stands settings rack state.earlier s state.before)) words contents
+    (λ settings script report text shows entries last told s state. (end_tells_what_is settings rack state.earlier s state.before, tree_stands settings rack state.earlier s state.before, nothing_left_settled settings rack state.earlier s state.before)) words contents
 
 -- what the events of a run plug is within the limits of the script
 entries_within : (entries : List FrontEntry) → AllByRecursion (IsEventWithin 16) (happened entries) → AllByRecursion (IsEntryWithin 16) (machine_part entries)

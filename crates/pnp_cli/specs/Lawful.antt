@@ -40,6 +40,7 @@ use Rattle.pnp_promises.specs.Pended.{IsCompletion}
 use Rattle.pnp_promises.specs.Refusals.{AwaitsAnswer, ChangesNothing, IsExact}
 use Rattle.pnp_promises.specs.Relations.{GoesWithDrivers}
 use Rattle.pnp_promises.specs.Searches.{Costs}
+use Rattle.pnp_promises.specs.Settled.{AllAreSettled, NothingLeft}
 use Rattle.pnp_promises.specs.TreeOrder.{TreeStands}
 use Rattle.client_promises.specs.Notices.{HasCause}
 use Rattle.client_promises.specs.Registering.{After, IsExactOf, IsRegistered}
@@ -294,9 +295,10 @@ PendedWaits old entry new = (k : ℕ) (minor : Minor) → AwaitsAnswer old k min
 abbrev pub KeptRunning : machines.Settings → List Driver → List Entry → State → Entry → State → Type 0
 KeptRunning settings rack earlier old entry new = InTurn old new × KeepsHoldings old new × PendedWaits old entry new
 
--- what the end would tell is so, and under `tree` each line stands below that of its parent
+-- what the end would tell is so; under `tree` each line stands below that of its parent; and where nothing is left to do each device is Started
+-- without a problem, has no drivers and a problem, or has gone
 abbrev pub EndIsSo : State → Type 0
-EndIsSo s = EndTells s × TreeStands (print_order s.core.nodes)
+EndIsSo s = EndTells s × TreeStands (print_order s.core.nodes) × (NothingLeft s → AllAreSettled s)
 
 -- no alternative of a device has more than 16 groups; and where none has more than some number, at most one more than that
 -- number is held or reserved for each event, and for the root

@@ -77,7 +77,7 @@ who_is_up_stands_on_what_is_up settings rack entries s k n run none other at up 
 
 -- At rest ---------------------------------------------------------------------------------------------------
 
-no_task : (settings : Settings) (rack : List Driver) (entries : List Entry) (s : State) → Reaches settings rack entries s → IsAtRest settings s → s.tasks ≡ []
+pub no_task : (settings : Settings) (rack : List Driver) (entries : List Entry) (s : State) → Reaches settings rack entries s → IsAtRest settings s → s.tasks ≡ []
 no_task settings rack entries s run rest =
     let rests : RestsWith s None = subst (λ (x : Option Job). RestsWith s x) rest.none ((quiet_where_it_rests settings rack entries s run).0 rest.quiet) in
     by_tasks s.tasks refl (subst (λ (x : List Activity). NoTask (slice_get s.tasks 0) x) rest.idle rests.1)

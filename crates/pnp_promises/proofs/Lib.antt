@@ -23,3 +23,11 @@ pub mod AtRest
 pub mod Pended
 pub mod Named
 pub mod Relations
+mod Cares
+mod CaresIdle
+mod CaresOperations
+mod CaresRebalances
+mod CaresRemovals
+mod Skips
+pub mod Excuses
+pub mod Settled

@@ -19,3 +19,4 @@ pub mod AtRest
 pub mod Pended
 pub mod Named
 pub mod Relations
+pub mod Settled

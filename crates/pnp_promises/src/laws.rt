@@ -16,6 +16,7 @@ ghost use Rattle.pnp_promises.specs.Ranks.{TheBestIsChosenLaw};
 ghost use Rattle.pnp_promises.specs.Refusals.{CausesAreExactLaw, RefusedChangesNothingLaw};
 ghost use Rattle.pnp_promises.specs.Relations.{RelationsGoWithDriversLaw};
 ghost use Rattle.pnp_promises.specs.Searches.{SearchesKeepTheBudgetLaw};
+ghost use Rattle.pnp_promises.specs.Settled.{AtRestAllAreSettledLaw};
 ghost use Rattle.pnp_promises.specs.StopOrder.{StoppedFromTheGreatestLaw};
 ghost use Rattle.pnp_promises.specs.TreeOrder.{TreeStandsLaw};
 ghost use Rattle.pnp_promises.specs.Words.{DependentsAreKnownLaw, PathsNameDevicesLaw};
@@ -186,4 +187,9 @@ pub fn only_the_named_device_changes()
 /// A step makes no relation, and unmakes those alone of which a device that loses its drivers was owner or member.
 pub fn relations_go_with_drivers()
     ensures { RelationsGoWithDriversLaw }
+{}
+
+/// At rest, with nothing under way, each device is Started without a problem, has no drivers and a problem, or has gone.
+pub fn at_rest_all_are_settled()
+    ensures { AtRestAllAreSettledLaw }
 {}

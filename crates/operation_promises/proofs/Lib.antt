@@ -1,0 +1,4 @@
+pub mod Movers
+pub mod Removed
+pub mod Below
+pub mod Causes
