@@ -3,7 +3,7 @@
 
 /// What the browser may run and load: the script of this sum alone.
 pub const POLICY: &[u8] =
-    b"default-src 'none'; style-src 'unsafe-inline'; script-src 'sha256-kv8TvtCA70jQ585KbIGQRARIWouKRJOpFM45dcFfDHo='";
+    b"default-src 'none'; style-src 'unsafe-inline'; script-src 'sha256-2f8KvJcyKvg5ydUGSWgfw8gzQQ6JC3fsEzUuHqmzXDs='";
 
 /// The script. No character of it is escaped.
 pub fn script_text() -> &'static [u8] {
@@ -217,7 +217,7 @@ pub fn script_text() -> &'static [u8] {
     group.is_stale = false;
   }
 
-  // This is done of those in view first, and of the others some at a time.
+  // This is done of those in view first, and of the others some between one drawing of the browser and the next.
   let waiting = [];
 
   function settle_some() {
@@ -227,7 +227,7 @@ pub fn script_text() -> &'static [u8] {
       if (group.is_stale) settle(group);
     }
     stepper.ariaBusy = waiting.length !== 0;
-    if (waiting.length) setTimeout(settle_some, 0);
+    if (waiting.length) requestAnimationFrame(function () { setTimeout(settle_some, 0); });
   }
 
   // What stands below the page: the row, what is sought, and the state.
@@ -276,27 +276,22 @@ pub fn script_text() -> &'static [u8] {
     return [front, back];
   }
 
-  // A box has its lines in parts of no more than MOST. Only those parts are made anew in which something changes, and the one before.
+  // A box has its lines in parts of MOST. A part stays where it is, also where it has no lines any more, and what it has is written anew
+  // where it differs.
   function fill(box, now) {
-    const [front, back] = alike(box.lines, now);
-    let first = 0;
-    let begin = 0;
-    while (first === box.parts.length ? false : is_most(begin + box.parts[first].size, front)) begin += box.parts[first++].size;
-    if (first) begin -= box.parts[--first].size;
-    let last = box.parts.length;
-    let end = box.lines.length;
-    while (last === first ? false : is_most(box.lines.length - back, end - box.parts[last - 1].size)) end -= box.parts[--last].size;
-    const stop = now.length - box.lines.length + end;
-    const fresh = [];
-    for (let at = begin; at !== stop; at = Math.min(at + MOST, stop)) {
-      const some = now.slice(at, Math.min(at + MOST, stop));
-      const node = made(`div`, { textContent: some.join(`\n`) + `\n` });
-      node.style.containIntrinsicHeight = some.length * 1.25 + `rem`;
-      fresh.push({ size: some.length, node: node });
+    while (is_most(box.parts.length * MOST + 1, now.length)) {
+      const node = made(`div`, {});
+      box.parts.push({ node: node, text: ``, size: 0 });
+      box.pre.append(node);
     }
-    const next = box.parts[last] ? box.parts[last].node : null;
-    for (const part of box.parts.splice.apply(box.parts, [first, last - first].concat(fresh))) part.node.remove();
-    for (const part of fresh) box.pre.insertBefore(part.node, next);
+    box.parts.forEach(function (part, at) {
+      const some = now.slice(at * MOST, at * MOST + MOST);
+      const text = some.join(`\n`) + (some.length ? `\n` : ``);
+      if (text !== part.text) part.node.textContent = text;
+      if (some.length !== part.size) part.node.style.containIntrinsicHeight = some.length * 1.25 + `rem`;
+      part.text = text;
+      part.size = some.length;
+    });
     box.lines = now;
   }
 
@@ -304,27 +299,25 @@ pub fn script_text() -> &'static [u8] {
   function mark(box, was) {
     const [front, back] = alike(was, box.lines);
     const had = new Set(was.slice(front, was.length - back));
-    let begin = 0;
-    for (const part of box.parts) {
-      const from = Math.max(begin, front);
-      const to = Math.min(begin + part.size, box.lines.length - back);
-      if (!is_most(to, from)) {
-        const pieces = [``];
-        box.lines.slice(begin, begin + part.size).forEach(function (line, at) {
-          const is_new = is_most(from, begin + at) ? is_most(begin + at + 1, to) : false;
-          if (is_new ? !had.has(line) : false) pieces.push(made(`mark`, { textContent: line }), `\n`);
-          else pieces.push(pieces.pop() + line + `\n`);
-        });
-        part.node.replaceChildren.apply(part.node, pieces);
-        box.marked.push(part.node);
-      }
-      begin += part.size;
-    }
+    const is_new = box.lines.map(function (line, at) {
+      return is_most(front, at) ? is_most(at + 1, box.lines.length - back) ? !had.has(line) : false : false;
+    });
+    box.parts.forEach(function (part, number) {
+      const first = number * MOST;
+      if (!is_new.slice(first, first + part.size).some(Boolean)) return;
+      const pieces = [``];
+      box.lines.slice(first, first + part.size).forEach(function (line, at) {
+        if (is_new[first + at]) pieces.push(made(`mark`, { textContent: line }), `\n`);
+        else pieces.push(pieces.pop() + line + `\n`);
+      });
+      part.node.replaceChildren.apply(part.node, pieces);
+      box.marked.push(part);
+    });
   }
 
   // What a box shows behind a row, before which it was so.
   function draw(box, now, was) {
-    for (const node of box.marked.splice(0)) node.textContent = node.textContent;
+    for (const part of box.marked.splice(0)) part.node.textContent = part.text;
     if (now !== box.text) fill(box, now.split(`\n`).slice(0, -1));
     box.text = now;
     if (now !== was) mark(box, was.split(`\n`).slice(0, -1));
