@@ -7,7 +7,7 @@ pub fn style_text() -> &'static [u8] {
 .grid .group li,.grid details::details-content{content-visibility:visible}
 .grid details:not([open]) ol{display:none}
 .grid ol,.grid li,.grid summary{counter-reset:none;counter-increment:none;counter-set:none}
-.grid summary::before,.grid [open] summary::before{content:attr(x);top:.4375rem;width:.625rem;height:.625rem;background:var(--soft);clip-path:polygon(15% 0,100% 50%,15% 100%)}
+.grid summary::before,.grid [open] summary::before{content:attr(x);top:.5rem;left:.125rem;width:.5rem;height:.5rem;background:var(--soft);clip-path:polygon(15% 0,100% 50%,15% 100%)}
 .grid [open] summary::before{clip-path:polygon(0 15%,100% 15%,50% 100%)}
 .drawing,.ending{contain-intrinsic-height:auto 60rem}
 .device-tree .group,.long .group,.stepper pre div{width:max-content;min-width:100%}
