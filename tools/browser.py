@@ -88,6 +88,18 @@ class Browser:
             raise OSError(it["exceptionDetails"].get("exception", {}).get("description", "a fault in the page"))
         return it["result"].get("value")
 
+    def timed(self, words):
+        """Runs statements, and returns how many milliseconds went by until the browser had drawn what they changed."""
+        return self.value(f"""new Promise(done => {{
+            const began = performance.now();
+            {words}
+            requestAnimationFrame(() => {{
+                const channel = new MessageChannel();
+                channel.port1.onmessage = () => done(performance.now() - began);
+                channel.port2.postMessage(0);
+            }});
+        }})""")
+
     def look(self, width, height, is_dark):
         """Sets the width and the scheme."""
         self.call("Emulation.setDeviceMetricsOverride", width=width, height=height, deviceScaleFactor=1, mobile=False)

@@ -3,22 +3,34 @@
 
 /// What the browser may run and load: the script of this sum alone.
 pub const POLICY: &[u8] =
-    b"default-src 'none'; style-src 'unsafe-inline'; script-src 'sha256-9nCG2mi23FYKtJZOE9hZUTWDzWmcoxOPdTU2ez18Kas='";
+    b"default-src 'none'; style-src 'unsafe-inline'; script-src 'sha256-2f8KvJcyKvg5ydUGSWgfw8gzQQ6JC3fsEzUuHqmzXDs='";
 
 /// The script. No character of it is escaped.
 pub fn script_text() -> &'static [u8] {
     br"(function () {
   `use strict`;
   const SECTIONS = [`tree`, `map`, `outstanding`, `handles`];
-  const EVERY = 512;
-  const MOST = 64;
+  // Of so many rows one keeps its text; a text is kept in pieces of so many signs; a box has parts of so many lines; a group so many
+  // rows; a table of more rows has groups; and so many milliseconds rows are hidden before the browser draws.
+  const EVERY = 64, PIECE = 2048, MOST = 64, GROUP = 32, TABLE = 512, SLICE = 8;
+
+  // Whether a value is no more than another, without a sign that the page would escape.
+  function is_most(value, most) { return Math.max(value, most) === most; }
+
+  // An element with these attributes and parts.
+  function made(name, attributes, parts) {
+    const it = Object.assign(document.createElement(name), attributes);
+    it.append.apply(it, parts || []);
+    return it;
+  }
 
   // What the page has: its rows, and what is told of the state behind each.
-  const rows = Array.from(document.querySelectorAll(`.grid li`));
+  const grid = document.querySelector(`.grid`);
+  const run = document.querySelector(`.run`);
+  const rows = Array.from(grid.querySelectorAll(`li`));
   const codes = rows.map(function (row) { return row.querySelector(`code`); });
   const lines = codes.map(function (code) { return code.textContent; });
-  const folds = Array.from(document.querySelectorAll(`.grid details`));
-  const open = new Set(folds.filter(function (fold) { return fold.open; }));
+  const lower = lines.map(function (line) { return line.toLowerCase(); });
   const written = document.getElementById(`states`).textContent;
   let place = 0;
 
@@ -49,19 +61,47 @@ pub fn script_text() -> &'static [u8] {
 
   const entries = rows.map(entry);
 
+  // A text is kept in pieces, which it shares with the one before. These are the pieces of the next one.
   function edited(old, edits) {
+    const now = [];
+    let piece = 0;
     let at = 0;
-    let text = ``;
-    for (const [stay, go, come] of edits) {
-      text += old.slice(at, at + stay) + come;
-      at += stay + go;
+
+    function add(text) {
+      for (let from = 0; from !== text.length; from = Math.min(from + PIECE, text.length)) {
+        const some = text.slice(from, from + PIECE);
+        const last = now.length - 1;
+        if (now.length ? is_most(now[last].length + some.length, PIECE) : false) now[last] += some;
+        else now.push(some);
+      }
     }
-    return text + old.slice(at);
+
+    function take(count, stays) {
+      for (let left = count; left !== 0;) {
+        if (piece === old.length) return;
+        const some = Math.min(left, old[piece].length - at);
+        if (stays) add(old[piece].slice(at, at + some));
+        left -= some;
+        at += some;
+        if (at === old[piece].length) {
+          piece += 1;
+          at = 0;
+        }
+      }
+    }
+
+    for (const [stay, go, come] of edits) {
+      take(stay, true);
+      take(go, false);
+      add(come);
+    }
+    take(Infinity, true);
+    return now;
   }
 
   // The text that is known behind a row, with the row that told it.
   function next(known, row) {
-    return entries[row] ? { row: row, text: edited(known.text, entries[row]) } : known;
+    return entries[row] ? { row: row, pieces: edited(known.pieces, entries[row]) } : known;
   }
 
   // Every so many rows it is kept, so that each row is a few edits away.
@@ -69,7 +109,7 @@ pub fn script_text() -> &'static [u8] {
   rows.reduce(function (known, row, at) {
     if (at % EVERY === 0) kept.push(known);
     return next(known, at);
-  }, { row: -1, text: `` });
+  }, { row: -1, pieces: [] });
 
   // The row that is shown, and the text that is known behind it.
   let shown = { at: -1, known: kept[0] };
@@ -82,25 +122,115 @@ pub fn script_text() -> &'static [u8] {
     return known;
   }
 
-  // The lines of each section, which its name stands before.
-  function sections(text) {
-    const all = `\n` + text;
+  // The lines of each section, which its name stands before. Those of the last two texts are kept.
+  let read = [];
+
+  function sections(known) {
+    const same = read.find(function (it) { return it.known === known; });
+    if (same) return same.parts;
+    const all = [`\n`].concat(known.pieces).join(``);
     const parts = {};
     SECTIONS.reduceRight(function (end, name) {
       const at = all.indexOf(`\n` + name + `\n`);
       parts[name] = at === -1 ? `` : all.slice(at + name.length + 2, end);
       return at === -1 ? end : at + 1;
     }, all.length);
+    read = [{ known: known, parts: parts }].concat(read.slice(0, 1));
     return parts;
   }
 
-  // What stands below the page: the row, what is sought, and the state.
-  function made(name, attributes, parts) {
-    const it = Object.assign(document.createElement(name), attributes);
-    it.append.apply(it, parts || []);
-    return it;
+  // The events that fold: which rows each has, whether it is open, and whether it was; and which rows are hidden.
+  const folds = Array.from(grid.querySelectorAll(`details`));
+  const fold_rows = folds.map(function () { return []; });
+  const number_of = new Map(folds.map(function (fold, at) { return [fold, at]; }));
+  const fold_of = rows.map(function (row) { return number_of.get(row.parentNode.parentNode); });
+  const own_fold = rows.map(function (row) { return number_of.get(row.firstElementChild); });
+  fold_of.forEach(function (fold, row) { if (fold !== undefined) fold_rows[fold].push(row); });
+  const open = folds.map(function (fold) { return fold.open; });
+  const opened = open.slice();
+  const hidden = rows.map(function () { return false; });
+
+  // Items that stand beside one another are put into elements of no more lines than GROUP, where that can be.
+  function put(items, lines_of) {
+    let room = 0;
+    let node = null;
+    for (const item of Array.from(items)) {
+      if (room === 0) {
+        node = made(`div`, { className: `group` });
+        item.before(node);
+        room = GROUP;
+      }
+      room = Math.max(room - lines_of(item), 0);
+      node.append(item);
+    }
   }
 
+  // How many lines an item of a list has, where it is open.
+  function depth(item) {
+    const fold = number_of.get(item.firstElementChild);
+    return fold === undefined ? 1 : fold_rows[fold].length + 1;
+  }
+
+  // Rows, devices and ranges stand in groups. The browser lays out those in view; the others are as high as they would be.
+  for (const list of grid.querySelectorAll(`ol`)) {
+    if (list.parentNode === grid ? true : !is_most(list.children.length, GROUP)) put(list.children, depth);
+  }
+  for (const list of document.querySelectorAll(`.device-tree`)) put(list.children, function () { return 1; });
+  for (const table of document.querySelectorAll(`.map-table`)) {
+    if (is_most(table.rows.length, TABLE)) continue;
+    table.classList.add(`long`);
+    put(table.rows, function () { return 1; });
+  }
+  const groups = [];
+  const group_by = new Map();
+  for (const node of grid.querySelectorAll(`.group`)) {
+    const group = { node: node, outer: group_by.get(node.parentNode.closest(`.group`)), rows: [], lines: -1, count: 0, is_seen: false, is_stale: false };
+    group_by.set(node, group);
+    groups.push(group);
+  }
+  const group_of = rows.map(function (row) { return group_by.get(row.closest(`.group`)); });
+  group_of.forEach(function (group, row) { group.rows.push(row); });
+
+  // How high each group is: the rows that it shows.
+  function measure() {
+    for (const group of groups) group.count = 0;
+    group_of.forEach(function (group, row) {
+      if (hidden[row]) return;
+      if (fold_of[row] === undefined ? false : !opened[fold_of[row]]) return;
+      for (let it = group; it; it = it.outer) it.count += 1;
+    });
+    for (const group of groups) {
+      if (group.count === group.lines) continue;
+      group.lines = group.count;
+      group.node.hidden = group.lines === 0;
+      group.node.style.containIntrinsicHeight = group.lines * 1.5 + `rem`;
+    }
+  }
+
+  // The rows of a group are hidden, and its folds open, as they are to be.
+  function settle(group) {
+    for (const row of group.rows) {
+      if (rows[row].hidden !== hidden[row]) rows[row].hidden = hidden[row];
+      const fold = own_fold[row];
+      if (fold === undefined ? false : folds[fold].open !== opened[fold]) folds[fold].open = opened[fold];
+    }
+    group.is_stale = false;
+  }
+
+  // This is done of those in view first, and of the others some between one drawing of the browser and the next.
+  let waiting = [];
+
+  function settle_some() {
+    const end = performance.now() + SLICE;
+    while (waiting.length ? is_most(performance.now(), end) : false) {
+      const group = waiting.pop();
+      if (group.is_stale) settle(group);
+    }
+    stepper.ariaBusy = waiting.length !== 0;
+    if (waiting.length) requestAnimationFrame(function () { setTimeout(settle_some, 0); });
+  }
+
+  // What stands below the page: the row, what is sought, and the state.
   function field(label, values) {
     const list = made(`datalist`, { id: `stepper-` + label }, values.map(function (value) { return made(`option`, { value: value }); }));
     const input = made(`input`, { type: `search`, autocomplete: `off` });
@@ -136,8 +266,6 @@ pub fn script_text() -> &'static [u8] {
   ]);
   document.body.append(stepper);
 
-  function is_most(value, most) { return Math.max(value, most) === most; }
-
   // How many lines two sections have alike at the front, and then at the back.
   function alike(old, now) {
     const most = Math.min(old.length, now.length);
@@ -148,25 +276,22 @@ pub fn script_text() -> &'static [u8] {
     return [front, back];
   }
 
-  // A box has its lines in parts of no more than MOST. Only those parts are made anew in which something changes, and the one before.
+  // A box has its lines in parts of MOST. A part stays where it is, also where it has no lines any more, and what it has is written anew
+  // where it differs.
   function fill(box, now) {
-    const [front, back] = alike(box.lines, now);
-    let first = 0;
-    let begin = 0;
-    while (first === box.parts.length ? false : is_most(begin + box.parts[first].size, front)) begin += box.parts[first++].size;
-    if (first) begin -= box.parts[--first].size;
-    let last = box.parts.length;
-    let end = box.lines.length;
-    while (last === first ? false : is_most(box.lines.length - back, end - box.parts[last - 1].size)) end -= box.parts[--last].size;
-    const stop = now.length - box.lines.length + end;
-    const fresh = [];
-    for (let at = begin; at !== stop; at = Math.min(at + MOST, stop)) {
-      const some = now.slice(at, Math.min(at + MOST, stop));
-      fresh.push({ size: some.length, node: made(`div`, { textContent: some.join(`\n`) + `\n` }) });
+    while (is_most(box.parts.length * MOST + 1, now.length)) {
+      const node = made(`div`, {});
+      box.parts.push({ node: node, text: ``, size: 0 });
+      box.pre.append(node);
     }
-    const next = box.parts[last] ? box.parts[last].node : null;
-    for (const part of box.parts.splice.apply(box.parts, [first, last - first].concat(fresh))) part.node.remove();
-    for (const part of fresh) box.pre.insertBefore(part.node, next);
+    box.parts.forEach(function (part, at) {
+      const some = now.slice(at * MOST, at * MOST + MOST);
+      const text = some.join(`\n`) + (some.length ? `\n` : ``);
+      if (text !== part.text) part.node.textContent = text;
+      if (some.length !== part.size) part.node.style.containIntrinsicHeight = some.length * 1.25 + `rem`;
+      part.text = text;
+      part.size = some.length;
+    });
     box.lines = now;
   }
 
@@ -174,32 +299,35 @@ pub fn script_text() -> &'static [u8] {
   function mark(box, was) {
     const [front, back] = alike(was, box.lines);
     const had = new Set(was.slice(front, was.length - back));
-    let begin = 0;
-    for (const part of box.parts) {
-      const from = Math.max(begin, front);
-      const to = Math.min(begin + part.size, box.lines.length - back);
-      if (!is_most(to, from)) {
-        const pieces = [``];
-        box.lines.slice(begin, begin + part.size).forEach(function (line, at) {
-          const is_new = is_most(from, begin + at) ? is_most(begin + at + 1, to) : false;
-          if (is_new ? !had.has(line) : false) pieces.push(made(`mark`, { textContent: line }), `\n`);
-          else pieces.push(pieces.pop() + line + `\n`);
-        });
-        part.node.replaceChildren.apply(part.node, pieces);
-        box.marked.push(part.node);
-      }
-      begin += part.size;
-    }
+    const is_new = box.lines.map(function (line, at) {
+      return is_most(front, at) ? is_most(at + 1, box.lines.length - back) ? !had.has(line) : false : false;
+    });
+    box.parts.forEach(function (part, number) {
+      const first = number * MOST;
+      if (!is_new.slice(first, first + part.size).some(Boolean)) return;
+      const pieces = [``];
+      box.lines.slice(first, first + part.size).forEach(function (line, at) {
+        if (is_new[first + at]) pieces.push(made(`mark`, { textContent: line }), `\n`);
+        else pieces.push(pieces.pop() + line + `\n`);
+      });
+      part.node.replaceChildren.apply(part.node, pieces);
+      box.marked.push(part);
+    });
   }
 
   // What a box shows behind a row, before which it was so.
   function draw(box, now, was) {
-    for (const node of box.marked.splice(0)) node.textContent = node.textContent;
+    for (const part of box.marked.splice(0)) part.node.textContent = part.text;
     if (now !== box.text) fill(box, now.split(`\n`).slice(0, -1));
     box.text = now;
     if (now !== was) mark(box, was.split(`\n`).slice(0, -1));
-    const first = box.pre.querySelector(`mark`);
-    if (first) box.pre.scrollTop = first.offsetTop - box.pre.offsetTop - 32;
+  }
+
+  // In each box the first line that is marked comes into view.
+  function look() {
+    const marks = boxes.map(function (box) { return box.pre.querySelector(`mark`); });
+    const tops = marks.map(function (first, at) { return first ? first.offsetTop - boxes[at].pre.offsetTop - 32 : null; });
+    tops.forEach(function (top, at) { if (top !== null) boxes[at].pre.scrollTop = top; });
   }
 
   let here = 0;
@@ -207,8 +335,8 @@ pub fn script_text() -> &'static [u8] {
   function show(row) {
     const old = before(row);
     const known = next(old, row);
-    const now = sections(known.text);
-    const was = sections(old.text);
+    const now = sections(known);
+    const was = sections(old);
     rows[here].classList.remove(`here`);
     rows[row].classList.add(`here`);
     here = row;
@@ -224,14 +352,19 @@ pub fn script_text() -> &'static [u8] {
 
   function go(row) {
     show(row);
-    const fold = rows[row].parentNode.closest(`details`);
-    if (fold) fold.open = true;
+    const fold = fold_of[row];
+    if (fold === undefined ? false : !opened[fold]) {
+      opened[fold] = true;
+      folds[fold].open = true;
+      measure();
+    }
+    for (let group = group_of[row]; group; group = group.outer) if (group.is_stale) settle(group);
+    look();
     bring(codes[row]);
   }
 
   // A line that is not between the heads and what stands below comes to the middle.
   function bring(code) {
-    const run = document.querySelector(`.run`);
     const middle = (innerHeight - stepper.offsetHeight) / 2;
     const away = code.getBoundingClientRect().top - middle;
     if (run.scrollHeight !== run.clientHeight) code.scrollIntoView({ block: `nearest` });
@@ -240,32 +373,41 @@ pub fn script_text() -> &'static [u8] {
 
   // The next row that is not hidden, this way; or the next event.
   function step(way, by_event) {
-    function passes(row) { return row.hidden || (by_event ? row.parentNode.closest(`li`) !== null : false); }
+    function passes(row) { return hidden[row] || (by_event ? fold_of[row] !== undefined : false); }
     let row = here + way;
-    while (rows[row] ? passes(rows[row]) : false) row += way;
+    while (rows[row] ? passes(row) : false) row += way;
     if (rows[row]) go(row);
   }
 
-  // Rows that are not sought are hidden; of an event that has one the first row stays.
+  // Rows that are not sought are hidden, and what is drawn behind them; of an event that has one the first row stays.
   function filter() {
-    const sought = [search, device, driver].some(function (it) { return value(it) !== ``; });
-    const hits = lines.map(function (line) {
-      const words = line.toLowerCase().split(` `);
-      const has = [device, driver].every(function (it) { return value(it) === `` || words.includes(value(it)); });
-      return has ? words.join(` `).includes(value(search)) : false;
+    const text = value(search);
+    const words = [device, driver].map(value).filter(Boolean);
+    const sought = text !== `` || words.length !== 0;
+    function has(line, word) { return line.includes(word) ? line.split(` `).includes(word) : false; }
+    let hits = 0;
+    lower.forEach(function (line, row) {
+      const is_hit = line.includes(text) ? words.every(function (word) { return has(line, word); }) : false;
+      hidden[row] = !is_hit;
+      if (is_hit) hits += 1;
     });
-    rows.forEach(function (row, at) { row.hidden = !hits[at]; });
-    folds.forEach(function (fold) {
-      const some = Array.from(fold.querySelectorAll(`li`)).some(function (row) { return !row.hidden; });
-      fold.parentNode.hidden = some ? false : fold.parentNode.hidden;
-      fold.open = sought ? some : open.has(fold);
+    own_fold.forEach(function (fold, row) {
+      if (fold === undefined) return;
+      const some = fold_rows[fold].some(function (inner) { return !hidden[inner]; });
+      if (some) hidden[row] = false;
+      opened[fold] = sought ? some : open[fold];
     });
-    count.textContent = sought ? hits.filter(Boolean).length + ` of ` + rows.length + ` rows` : ``;
+    for (const drawing of document.querySelectorAll(`.drawing`)) drawing.hidden = sought;
+    count.textContent = sought ? hits + ` of ` + rows.length + ` rows` : ``;
+    measure();
+    for (const group of groups) group.is_stale = true;
+    waiting = groups.slice().sort(function (one, other) { return one.is_seen - other.is_seen; });
+    settle_some();
   }
 
   function at_address() {
     const row = rows.indexOf(document.getElementById(location.hash.slice(1)));
-    if (row !== -1) show(row);
+    if (row !== -1) go(row);
   }
 
   slider.addEventListener(`input`, function () { go(slider.value - 1); });
@@ -276,12 +418,28 @@ pub fn script_text() -> &'static [u8] {
     if (event.key === `ArrowLeft`) step(-1, event.shiftKey);
     if (event.key === `ArrowRight`) step(1, event.shiftKey);
   });
-  document.querySelector(`.grid`).addEventListener(`click`, function (event) {
+  grid.addEventListener(`toggle`, function (event) {
+    const fold = number_of.get(event.target);
+    if (opened[fold] === event.target.open) return;
+    opened[fold] = event.target.open;
+    measure();
+  }, true);
+  grid.addEventListener(`contentvisibilityautostatechange`, function (event) {
+    const group = group_by.get(event.target);
+    if (!group) return;
+    group.is_seen = !event.skipped;
+    if (group.is_seen ? group.is_stale : false) settle(group);
+  }, true);
+  grid.addEventListener(`click`, function (event) {
     const row = codes.indexOf(event.target.closest(`code`));
-    if (row !== -1) show(row);
+    if (row !== -1) go(row);
   });
   window.addEventListener(`hashchange`, at_address);
-  if (rows.length) show(0);
+  measure();
+  if (rows.length) {
+    show(0);
+    look();
+  }
   at_address();
 })();
 "
