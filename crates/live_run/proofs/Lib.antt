@@ -1,3 +1,5 @@
 mod Faults
-mod Making
+mod Talking
+mod Trailing
+mod Polling
 mod Replying
