@@ -1,4 +1,5 @@
 mod Faults
+mod Leading
 mod Talking
 mod Trailing
 mod Polling
