@@ -78,5 +78,5 @@ lost_bad lives settings ask s t (inr h) = lost_other lives settings ask s t h
 -- An error that is passed on ---------------------------------------------------------------------
 
 pub passed_on : {A : Type 0} (P : Result A Stop → Type 0) (r : Result A Stop) (stop : Stop) → IsErr r × IsErrAnd r (λ f. f ≡ stop) → P (Err stop) → P r
-passed_on P (Ok x) stop h p = absurd h.0
+passed_on P (Ok x) stop h p = absurd h.1
 passed_on P (Err f) stop h p = subst (λ (s : Stop). P (Err s)) (sym h.1) p
