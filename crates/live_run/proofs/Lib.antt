@@ -4,3 +4,5 @@ mod Talking
 mod Trailing
 mod Polling
 mod Replying
+mod Probing
+mod Stepping
