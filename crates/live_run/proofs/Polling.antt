@@ -40,6 +40,17 @@ no_completion : (a b c : Bool) (m : Option Minor) (k : Option Bool) (path : Text
     → (c ≡ true → request_at path minor t ≡ None) → is_polled t (if a && b && c then completion_by path tags m k else None) ≡ false
 no_completion a b c m k path tags minor ok t ea eb em ek none = rw (ea, eb, em, ek) (none_waits c path tags minor ok t none)
 
+no_ending : (b : Bool) (m : Option Minor) (path : Text) (tags : List Text) (t : Trail) → is_polled t (if b then completion_by path tags m None else None) ≡ false
+no_ending true None path tags t = refl
+no_ending true (Some minor) path tags t = refl
+no_ending false m path tags t = refl
+
+-- where the words do not say how it ends
+pub not_ended : (t : Trail) (word path request how : Text) (tags : List Text) → ok_of how ≡ None → is_polled t (polled_words (Some (word ∷ path ∷ request ∷ how ∷ tags))) ≡ false
+not_ended t word path request how tags none =
+    let told = bytes_eq word (codes "complete") && are_tags tags && is_path path in
+    subst (λ (k : Option Bool). is_polled t (if told then completion_by path tags (minor_of request) k else None) ≡ false) (sym none) (no_ending told (minor_of request) path tags t)
+
 takes_completion : (polled : Polled) (ask : ℕ) (t : Trail) (word path request how : Text) (tags : List Text) (minor : Minor) (ok : Bool) (old new : Text)
     → bytes_eq word (codes "complete") ≡ true → are_tags tags ≡ true → minor_of request ≡ Some minor → ok_of how ≡ Some ok
     → HasCompleted polled ask t path minor ok tags old new → TakesPolled polled (polled_words (Some (word ∷ path ∷ request ∷ how ∷ tags))) ask t old new
