@@ -1,5 +1,7 @@
 -- How live drivers are probed, and how what stands behind a line goes.
-use Rattle.std.proofs.Common.{ℕ, ◌≡◌, ◌+◌, Bool, true, false, List, [], ◌∷◌, Option, Some, None, refl, sym, ap, ◌∙◌, subst}
+use Rattle.std.proofs.Common.{ℕ, suc, ◌≡◌, ◌+◌, ◌<◌, ◌≤◌, Bool, true, false, List, [], ◌∷◌, Option, Some, None, add-one, drop, get_or, length, map, refl, sym, ap, ◌∙◌, subst}
+use Rattle.std.proofs.Math.Seq.{drop-cons}
+use Rattle.std.proofs.lemmas.List.{drop_all}
 use Rattle.std.specs.Prelude.{Result, Ok, Err, if◌then◌else◌}
 use Rattle.live_io.specs.Turns.{Past}
 use Rattle.pnp_labels.specs.Texts.{Text}
@@ -20,6 +22,15 @@ use Rattle.live_run.proofs.Leading.{leads_on, leads_one, loses_on, lost_bad, los
 
 abbrev pub with_told : Told → Stand → Stand
 with_told t s = record s { told = t }
+
+-- the next of those that are still to come, and that there is none
+pub next_seen : {A B : Type 0} (f : A → B) (xs : List A) (i : ℕ) (x : A) → i < length xs → x ≡ get_or xs i x → map f (drop i xs) ≡ f x ∷ map f (drop (i + 1) xs)
+next_seen f xs i x less is =
+    let here : drop i xs ≡ get_or xs i x ∷ drop (suc i) xs = drop-cons xs i x less in
+    ap (map f) here ∙ ap (λ y. f y ∷ map f (drop (suc i) xs)) (sym is) ∙ ap (λ (n : ℕ). f x ∷ map f (drop n xs)) (sym (add-one i))
+
+pub none_left : {A B : Type 0} (f : A → B) (xs : List A) (i : ℕ) → length xs ≤ i → map f (drop i xs) ≡ []
+none_left f xs i all = ap (map f) (drop_all i xs all)
 
 -- One driver --------------------------------------------------------------------------------------
 
