@@ -3,4 +3,5 @@ mod Leading
 mod Talking
 mod Trailing
 mod Polling
+mod Settling
 mod Replying
