@@ -5,3 +5,5 @@ mod Trailing
 mod Polling
 mod Settling
 mod Replying
+mod Probing
+mod Stepping

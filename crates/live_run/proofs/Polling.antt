@@ -1,22 +1,72 @@
 -- What the answers to a poll and to a probe come to.
-use Rattle.std.proofs.Common.{ℕ, ◌≡◌, ◌++◌, Bool, true, false, List, Option, Some, None, refl, sym, ap, ◌∙◌, subst, inl, inr}
-use Rattle.std.specs.Prelude.{IsErr, IsErrAnd, Result, Ok, Err, is_some}
+use Rattle.std.proofs.Common.{arith, ℕ, ◌≡◌, ◌≢◌, ◌<◌, ◌++◌, Bool, true, false, List, [], ◌∷◌, Option, Some, None, length, refl, sym, ap, ◌∙◌, subst, inl, inr}
+use Rattle.std.specs.Prelude.{◌&&◌, IfOk, IsErr, IsErrAnd, Result, Ok, Err, codes, if◌then◌else◌, is_some}
+use Rattle.std.specs.Str.{bytes_eq}
+use Rattle.device_ids.specs.Ids.{is_path}
 use Rattle.live_io.specs.Turns.{Past}
 use Rattle.pnp_labels.specs.Texts.{Text}
 use Rattle.pnp_labels.specs.declared.event.Event.{Event}
 use Rattle.pnp_labels.specs.declared.states.DevState.{DevState}
-use Rattle.live_model.specs.Answers.{Reply, completes, polled_in, reply_in}
+use Rattle.pnp_labels.specs.declared.words.Minor.{Minor}
+use Rattle.script_reader.specs.Tables.{minor_of, ok_of}
+use Rattle.live_model.specs.Answers as answers
+use Rattle.live_model.specs.Answers.{Completion, Reply, are_tags, completes, completion_by, polled_in, polled_words, reply_in}
 use Rattle.live_model.specs.Fronts.{IsFront}
 use Rattle.live_model.specs.Notes.{broke_lines, done_line, probe_lines}
-use Rattle.live_model.specs.Outputs.{Told}
-use Rattle.live_model.specs.Trails.{Trail}
-use Rattle.live_run.specs.Polls.{HasPolled, TakesPolled}
+use Rattle.live_model.specs.Outputs.{Told, is_polled}
+use Rattle.live_model.specs.Trails.{Trail, request_at}
+use Rattle.live_run.specs.Polls.{HasCompleted, HasPolled, TakesPolled}
 use Rattle.live_run.specs.Probes.{HasProbed, TakesProbed}
 use Rattle.live_run.specs.Talks.{HearsLine, told_by}
 use Rattle.live_run.specs.declared.poll.Polled.{Polled}
 use Rattle.live_run.specs.declared.stop.DriveError.{DriveError}
 use Rattle.live_run.specs.declared.stop.Stop.{Stop}
 use Rattle.live_run.proofs.Talking.{asks_stay, still_told, told_noted}
+
+-- What the words of an answer to a poll tell ------------------------------------------------------
+
+abbrev told_so : Text → Minor → Bool → List Text → Completion
+told_so path minor ok tags = record { path = path; minor = minor; ok = ok; tags = tags }
+
+completion_is : (a b c : Bool) (m : Option Minor) (k : Option Bool) (path : Text) (tags : List Text) (minor : Minor) (ok : Bool) → a ≡ true → b ≡ true → c ≡ true → m ≡ Some minor → k ≡ Some ok
+    → (if a && b && c then completion_by path tags m k else None) ≡ Some (completes (told_so path minor ok tags))
+completion_is a b c m k path tags minor ok ea eb ec em ek = rw (ea, eb, ec, em, ek) refl
+
+none_waits : (c : Bool) (path : Text) (tags : List Text) (minor : Minor) (ok : Bool) (t : Trail) → (c ≡ true → request_at path minor t ≡ None) → is_polled t (if c then Some (completes (told_so path minor ok tags)) else None) ≡ false
+none_waits true path tags minor ok t none = ap is_some (none refl)
+none_waits false path tags minor ok t none = refl
+
+no_completion : (a b c : Bool) (m : Option Minor) (k : Option Bool) (path : Text) (tags : List Text) (minor : Minor) (ok : Bool) (t : Trail) → a ≡ true → b ≡ true → m ≡ Some minor → k ≡ Some ok
+    → (c ≡ true → request_at path minor t ≡ None) → is_polled t (if a && b && c then completion_by path tags m k else None) ≡ false
+no_completion a b c m k path tags minor ok t ea eb em ek none = rw (ea, eb, em, ek) (none_waits c path tags minor ok t none)
+
+takes_completion : (polled : Polled) (ask : ℕ) (t : Trail) (word path request how : Text) (tags : List Text) (minor : Minor) (ok : Bool) (old new : Text)
+    → bytes_eq word (codes "complete") ≡ true → are_tags tags ≡ true → minor_of request ≡ Some minor → ok_of how ≡ Some ok
+    → HasCompleted polled ask t path minor ok tags old new → TakesPolled polled (polled_words (Some (word ∷ path ∷ request ∷ how ∷ tags))) ask t old new
+takes_completion (Polled.Completes event) ask t word path request how tags minor ok old new named tagged minor_is ok_is h = (
+  told_so path minor ok tags,
+  completion_is (bytes_eq word (codes "complete")) (are_tags tags) (is_path path) (minor_of request) (ok_of how) path tags minor ok named tagged h.0 minor_is ok_is,
+  h.1,
+)
+takes_completion Polled.Bad ask t word path request how tags minor ok old new named tagged minor_is ok_is h =
+    (no_completion (bytes_eq word (codes "complete")) (are_tags tags) (is_path path) (minor_of request) (ok_of how) path tags minor ok t named tagged minor_is ok_is h.0, h.1)
+takes_completion Polled.Nothing ask t word path request how tags minor ok old new named tagged minor_is ok_is h = absurd h
+
+pub takes_completed : {E : Type 0} (r : Result Polled E) (ask : ℕ) (t : Trail) (word path request how : Text) (tags : List Text) (minor : Minor) (ok : Bool) (old new : Text)
+    → bytes_eq word (codes "complete") ≡ true → are_tags tags ≡ true → minor_of request ≡ Some minor → ok_of how ≡ Some ok
+    → IfOk r (λ polled. HasCompleted polled ask t path minor ok tags old new) → IfOk r (λ polled. TakesPolled polled (polled_words (Some (word ∷ path ∷ request ∷ how ∷ tags))) ask t old new)
+takes_completed (Ok polled) ask t word path request how tags minor ok old new named tagged minor_is ok_is h = takes_completion polled ask t word path request how tags minor ok old new named tagged minor_is ok_is h
+takes_completed (Err e) ask t word path request how tags minor ok old new named tagged minor_is ok_is h = tt
+
+-- neither one word nor four are no answer
+pub few_words : (words : List Text) → length words ≢ 1 → length words < 4 → polled_words (Some words) ≡ None
+few_words [] other few = refl
+few_words (a ∷ []) other few = absurd (omega arith)
+few_words (a ∷ b ∷ []) other few = refl
+few_words (a ∷ b ∷ c ∷ []) other few = refl
+few_words (a ∷ b ∷ c ∷ d ∷ more) other few = absurd (omega arith)
+
+-- What a poll comes to -------------------------------------------------------------------------------
 
 pub poll_fails : (r : Result (Option Event) Stop) (e : DriveError) (t : Trail) (old new : Told) (past : Option Past) (taken : Option Text) → IsErr r × IsErrAnd r (λ f. f ≡ Stop.Fault e) → IsFront old past taken → HasPolled r t old new past taken
 poll_fails (Ok x) e t old new past taken h begun = absurd h.1

@@ -1,7 +1,7 @@
 //! Whether a request that waits at a live driver completes.
-ghost use Rattle.std.specs.Prelude.{◌≡◌, ◌≤◌, IfOk, IsErrOf, OnOk, map};
+ghost use Rattle.std.specs.Prelude.{◌≡◌, ◌≤◌, ◌∷◌, IfOk, IsErrOf, OnOk, Some, map};
 ghost use Rattle.pnp_io.specs.Outside.{Rose};
-ghost use Rattle.live_model.specs.Answers.{are_tags, polled_in};
+ghost use Rattle.live_model.specs.Answers.{polled_in, polled_words};
 ghost use Rattle.live_model.specs.Notes.{poll_words};
 ghost use Rattle.live_model.specs.Outputs.{asked};
 ghost use Rattle.live_run.specs.declared.stop.DriveError.TheVariants.{ReadFault, WriteFault};
@@ -57,6 +57,36 @@ fn complete(
     Ok(Polled::Completes(Event::Complete { path, minor, ok }))
 }
 
+/// The completion that four words and more tell, if they tell that of a request that waits at a live driver; that it completes, and which rules
+/// were broken, is to be said.
+fn take_completion(
+    alloc: Global,
+    said: &mut Vec<u8>,
+    ask: u64,
+    trail: &Trail,
+    word: &[u8],
+    path: &[u8],
+    minor: &[u8],
+    ok: &[u8],
+    tags: &[&[u8]],
+) -> Result<Polled, WantOfMemory>
+    ensures { IfOk result (λ polled. TakesPolled polled (polled_words (Some (word.now ∷ path.now ∷ minor.now ∷ ok.now ∷ map (λ t. t.now) tags.now))) ask (trail_of trail.now) said.old.items said.new.items) }
+{
+    if !is_word(word, b"complete") {
+        return Ok(Polled::Bad);
+    }
+    if !are_tags(tags) {
+        return Ok(Polled::Bad);
+    }
+    let Some(minor) = minor_of(minor) else {
+        return Ok(Polled::Bad);
+    };
+    let Some(ok) = ok_of(ok) else {
+        return Ok(Polled::Bad);
+    };
+    complete(alloc, said, ask, trail, path, minor, ok, tags)
+}
+
 impl Talk {
     /// Takes the line that was heard as the answer to a poll.
     fn take_polled(&mut self, alloc: Global, trail: &Trail) -> Result<Polled, WantOfMemory>
@@ -68,23 +98,25 @@ impl Talk {
             return Ok(Polled::Bad);
         };
         match words.as_slice() {
-            [word] if is_word(word, b"none") => Ok(Polled::Nothing),
-            [word, path, minor, ok, tags @ ..] if is_word(word, b"complete") && are_tags(tags) => {
-                match (minor_of(minor), ok_of(ok)) {
-                    (Some(minor), Some(ok)) => {
-                        complete(
-                            alloc,
-                            &mut self.said,
-                            self.asks,
-                            trail,
-                            path,
-                            minor,
-                            ok,
-                            tags,
-                        )
-                    }
-                    _ => Ok(Polled::Bad),
+            [word] => {
+                if is_word(word, b"none") {
+                    Ok(Polled::Nothing)
+                } else {
+                    Ok(Polled::Bad)
                 }
+            }
+            [word, path, minor, ok, tags @ ..] => {
+                take_completion(
+                    alloc,
+                    &mut self.said,
+                    self.asks,
+                    trail,
+                    word,
+                    path,
+                    minor,
+                    ok,
+                    tags,
+                )
             }
             _ => Ok(Polled::Bad),
         }

@@ -86,10 +86,11 @@ fn look_behind<P: Peer>(
     ensures writes { P.write_faults peer.old ≤ P.write_faults peer.new }
     ensures reads { P.read_faults peer.old ≤ P.read_faults peer.new }
 {
+    if !live.are_probed() {
+        return Ok(());
+    }
     match label {
-        Label::State { path, state } if live.are_probed() => {
-            probe(alloc, path, *state, trail, talk, peer)
-        }
+        Label::State { path, state } => probe(alloc, path, *state, trail, talk, peer),
         _ => Ok(()),
     }
 }
