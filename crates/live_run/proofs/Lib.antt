@@ -4,6 +4,8 @@ mod Talking
 mod Trailing
 mod Polling
 mod Settling
+mod Playing
+mod Ending
 mod Replying
 mod Probing
 mod Stepping

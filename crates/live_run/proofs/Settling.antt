@@ -1,6 +1,6 @@
--- How the loop of a live run leads from place to place: until no step is next, and from one event to the next.
+-- Live steps one after another, until none is next; and so behind an event.
 use Rattle.std.proofs.Common.{ℕ, ◌≡◌, Bool, true, false, List, [], ◌∷◌, ◌++◌, Option, Some, None, refl, sym, ap, ◌∙◌, subst, inl, inr}
-use Rattle.std.specs.Prelude.{IsErr, IsErrAnd, Result, Ok, Err}
+use Rattle.std.specs.Prelude.{Result, Ok, Err}
 use Rattle.live_io.specs.Turns.{Past}
 use Rattle.pnp_labels.specs.Texts.{Text, label_line}
 use Rattle.pnp_labels.specs.declared.event.Event.{Event}
@@ -21,11 +21,6 @@ use Rattle.live_run.specs.declared.stop.DriveError.{DriveError}
 use Rattle.live_run.specs.declared.stop.Stop.{Stop}
 use Rattle.live_run.proofs.Leading.{leads_on, stops_on}
 use Rattle.live_run.proofs.Talking.{unsaid, unsaid_more}
-
--- an error that is passed on
-pub passed_on : {A : Type 0} (r : Result A Stop) (stop : Stop) (P : Result A Stop → Type 0) → IsErr r × IsErrAnd r (λ f. f ≡ stop) → P (Err stop) → P r
-passed_on (Ok x) stop P h p = absurd h.1
-passed_on (Err f) stop P h p = subst (λ (s : Stop). P (Err s)) (sym h.1) p
 
 -- Until no step is next ------------------------------------------------------------------------
 

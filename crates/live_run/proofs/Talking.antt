@@ -34,11 +34,11 @@ says_is more asks said past taken answers =
     ap (λ (p : Option Past). talk_of asks p (option_map (with_more more) (option_map (with_more said) taken)) answers) (past_more said more past)
     ∙ ap (λ (t : Option Text). talk_of asks (option_map (with_said (said ++ more)) past) t answers) (taken_more said more taken)
 
-past_nothing : (past : Option Past) → option_map (with_said []) past ≡ past
+pub past_nothing : (past : Option Past) → option_map (with_said []) past ≡ past
 past_nothing None = refl
 past_nothing (Some p) = ap (λ (o : Text). Some (record p { open_ = o })) (append-nil p.open_)
 
-taken_nothing : (taken : Option Text) → option_map (with_more []) taken ≡ taken
+pub taken_nothing : (taken : Option Text) → option_map (with_more []) taken ≡ taken
 taken_nothing None = refl
 taken_nothing (Some out) = ap (λ (o : Text). Some o) (append-nil out)
 
