@@ -1,5 +1,5 @@
 -- What the answers to a poll and to a probe come to.
-use Rattle.std.proofs.Common.{arith, ℕ, ◌≡◌, ◌≢◌, ◌<◌, ◌++◌, Bool, true, false, List, [], ◌∷◌, Option, Some, None, length, refl, sym, ap, ◌∙◌, subst, inl, inr}
+use Rattle.std.proofs.Common.{arith, ℕ, ◌≡◌, ◌≢◌, ◌<◌, ◌++◌, Bool, true, false, List, [], ◌∷◌, Option, Some, None, length, map, refl, sym, ap, ◌∙◌, subst, inl, inr}
 use Rattle.std.specs.Prelude.{◌&&◌, IfOk, IsErr, IsErrAnd, Result, Ok, Err, codes, if◌then◌else◌, is_some}
 use Rattle.std.specs.Str.{bytes_eq}
 use Rattle.device_ids.specs.Ids.{is_path}
@@ -10,7 +10,7 @@ use Rattle.pnp_labels.specs.declared.states.DevState.{DevState}
 use Rattle.pnp_labels.specs.declared.words.Minor.{Minor}
 use Rattle.script_reader.specs.Tables.{minor_of, ok_of}
 use Rattle.live_model.specs.Answers as answers
-use Rattle.live_model.specs.Answers.{Completion, Reply, are_tags, completes, completion_by, polled_in, polled_words, reply_in}
+use Rattle.live_model.specs.Answers.{Completion, Reply, are_tags, completes, completion_by, polled_in, polled_words, reply_in, words_in}
 use Rattle.live_model.specs.Fronts.{IsFront}
 use Rattle.live_model.specs.Notes.{broke_lines, done_line, probe_lines}
 use Rattle.live_model.specs.Outputs.{Told, is_polled}
@@ -40,6 +40,17 @@ no_completion : (a b c : Bool) (m : Option Minor) (k : Option Bool) (path : Text
     → (c ≡ true → request_at path minor t ≡ None) → is_polled t (if a && b && c then completion_by path tags m k else None) ≡ false
 no_completion a b c m k path tags minor ok t ea eb em ek none = rw (ea, eb, em, ek) (none_waits c path tags minor ok t none)
 
+no_ending : (b : Bool) (m : Option Minor) (path : Text) (tags : List Text) (t : Trail) → is_polled t (if b then completion_by path tags m None else None) ≡ false
+no_ending true None path tags t = refl
+no_ending true (Some minor) path tags t = refl
+no_ending false m path tags t = refl
+
+-- where the words do not say how it ends
+pub not_ended : (t : Trail) (word path request how : Text) (tags : List Text) → ok_of how ≡ None → is_polled t (polled_words (Some (word ∷ path ∷ request ∷ how ∷ tags))) ≡ false
+not_ended t word path request how tags none =
+    let told = bytes_eq word (codes "complete") && are_tags tags && is_path path in
+    subst (λ (k : Option Bool). is_polled t (if told then completion_by path tags (minor_of request) k else None) ≡ false) (sym none) (no_ending told (minor_of request) path tags t)
+
 takes_completion : (polled : Polled) (ask : ℕ) (t : Trail) (word path request how : Text) (tags : List Text) (minor : Minor) (ok : Bool) (old new : Text)
     → bytes_eq word (codes "complete") ≡ true → are_tags tags ≡ true → minor_of request ≡ Some minor → ok_of how ≡ Some ok
     → HasCompleted polled ask t path minor ok tags old new → TakesPolled polled (polled_words (Some (word ∷ path ∷ request ∷ how ∷ tags))) ask t old new
@@ -58,13 +69,20 @@ pub takes_completed : {E : Type 0} (r : Result Polled E) (ask : ℕ) (t : Trail)
 takes_completed (Ok polled) ask t word path request how tags minor ok old new named tagged minor_is ok_is h = takes_completion polled ask t word path request how tags minor ok old new named tagged minor_is ok_is h
 takes_completed (Err e) ask t word path request how tags minor ok old new named tagged minor_is ok_is h = tt
 
--- neither one word nor four are no answer
-pub few_words : (words : List Text) → length words ≢ 1 → length words < 4 → polled_words (Some words) ≡ None
-few_words [] other few = refl
-few_words (a ∷ []) other few = absurd (omega arith)
-few_words (a ∷ b ∷ []) other few = refl
-few_words (a ∷ b ∷ c ∷ []) other few = refl
-few_words (a ∷ b ∷ c ∷ d ∷ more) other few = absurd (omega arith)
+-- neither one word nor four: no answer
+few_words : {A : Type 0} (f : A → Text) (xs : List A) → length xs ≢ 1 → length xs < 4 → polled_words (Some (map f xs)) ≡ None
+few_words f [] other few = refl
+few_words f (a ∷ []) other few = absurd (omega arith)
+few_words f (a ∷ b ∷ []) other few = refl
+few_words f (a ∷ b ∷ c ∷ []) other few = refl
+few_words f (a ∷ b ∷ c ∷ d ∷ more) other few = absurd (omega arith)
+
+pub few_polled : {A : Type 0} (f : A → Text) (xs : List A) (asks : ℕ) (line heard : Text) (o : Option (List Text)) (t : Trail) → o ≡ words_in asks heard → o ≡ Some (map f xs) → heard ≡ line → length xs ≢ 1 → length xs < 4
+    → is_polled t (polled_in asks line) ≡ false
+few_polled f xs asks line heard o t read is same other few =
+    ap (λ (l : Text). is_polled t (polled_in asks l)) (sym same)
+    ∙ ap (λ (w : Option (List Text)). is_polled t (polled_words w)) (sym read ∙ is)
+    ∙ ap (is_polled t) (few_words f xs other few)
 
 -- What a poll comes to -------------------------------------------------------------------------------
 

@@ -1,5 +1,7 @@
 -- How live drivers are probed, and how what stands behind a line goes.
-use Rattle.std.proofs.Common.{ℕ, ◌≡◌, ◌+◌, Bool, true, false, List, [], ◌∷◌, Option, Some, None, refl, sym, ap, ◌∙◌, subst}
+use Rattle.std.proofs.Common.{ℕ, suc, ◌≡◌, ◌+◌, ◌<◌, ◌≤◌, Bool, true, false, List, [], ◌∷◌, Option, Some, None, add-one, drop, get_or, length, map, refl, sym, ap, ◌∙◌, subst}
+use Rattle.std.proofs.Math.Seq.{drop-cons}
+use Rattle.std.proofs.lemmas.List.{drop_all}
 use Rattle.std.specs.Prelude.{Result, Ok, Err, if◌then◌else◌}
 use Rattle.live_io.specs.Turns.{Past}
 use Rattle.pnp_labels.specs.Texts.{Text}
@@ -20,6 +22,15 @@ use Rattle.live_run.proofs.Leading.{leads_on, leads_one, loses_on, lost_bad, los
 
 abbrev pub with_told : Told → Stand → Stand
 with_told t s = record s { told = t }
+
+-- the next of those that are still to come, and that there is none
+pub next_seen : {A B : Type 0} (f : A → B) (xs : List A) (i : ℕ) (x : A) → i < length xs → x ≡ get_or xs i x → map f (drop i xs) ≡ f x ∷ map f (drop (i + 1) xs)
+next_seen f xs i x less is =
+    let here : drop i xs ≡ get_or xs i x ∷ drop (suc i) xs = drop-cons xs i x less in
+    ap (map f) here ∙ ap (λ y. f y ∷ map f (drop (suc i) xs)) (sym is) ∙ ap (λ (n : ℕ). f x ∷ map f (drop n xs)) (sym (add-one i))
+
+pub none_left : {A B : Type 0} (f : A → B) (xs : List A) (i : ℕ) → length xs ≤ i → map f (drop i xs) ≡ []
+none_left f xs i all = ap (map f) (drop_all i xs all)
 
 -- One driver --------------------------------------------------------------------------------------
 
@@ -50,8 +61,8 @@ unprobed Stop.End lives settings path state driver more t t' past taken h s =
 unprobed Stop.Bad lives settings path state driver more t t' past taken h s =
     loses_on lives settings (Probes path state (driver ∷ more) (with_told t s)) (Asks (AsksProbe path state driver more) (asking_it path driver t s)) outputs.AnswersBad outputs.bad_line t' (asks_it lives settings path state driver more t s)
     (lost_bad lives settings (AsksProbe path state driver more) (asking_it path driver t s) t' h)
-unprobed (Stop.Fault e) lives settings path state driver more t t' past taken front s =
-    record { there = Asks (AsksProbe path state driver more) (asking_it path driver t s); leads = asks_it lives settings path state driver more t s; front = front }
+unprobed (Stop.Fault e) lives settings path state driver more t t' past taken begun s =
+    record { there = Asks (AsksProbe path state driver more) (asking_it path driver t s); leads = asks_it lives settings path state driver more t s; front = begun }
 
 -- All of them -------------------------------------------------------------------------------------
 
@@ -88,7 +99,7 @@ came_so_far stop path state all driver ds more old t t' past taken split come h 
 -- it is given up between two
 pub given_up : (path : Text) (state : DevState) (all ds : List Text) (old t t' : Told) (past : Option Past) (taken : Option Text) (e : DriveError) → IsFront t past taken
     → HasCome path state all old ds t → (lives : Lives) (settings : Settings) → HasProbedAll (Err (Stop.Fault e)) lives settings path state all old t' past taken
-given_up path state all ds old t t' past taken e front come lives settings s = record { there = Probes path state ds (with_told t s); leads = come lives settings s; front = front }
+given_up path state all ds old t t' past taken e begun come lives settings s = record { there = Probes path state ds (with_told t s); leads = come lives settings s; front = begun }
 
 -- Behind a line -----------------------------------------------------------------------------------
 
@@ -110,15 +121,15 @@ probes_behind lives path state s all = ap (λ (b : Bool). if b then Probes path 
 
 pub looks_at_none : (lives : Lives) (settings : Settings) (label : Label) (trail : Trail) (t : Told) (past : Option Past) (taken : Option Text) → lives.probed ≡ false → HasLooked (Ok tt) lives settings label trail t t past taken
 looks_at_none lives settings label trail t past taken none = λ s.
-  let there : Stand = record s { trail = trail; told = t } in
-  subst (λ (p : Place). Leads lives settings p (Acts there)) (sym (acts_behind lives label there none)) (Leads.here (Acts there))
+    let there : Stand = record s { trail = trail; told = t } in
+    subst (λ (p : Place). Leads lives settings p (Acts there)) (sym (acts_behind lives label there none)) (Leads.here (Acts there))
 
 looks_so : (r : Result (Unit {0}) Stop) (lives : Lives) (settings : Settings) (path : Text) (state : DevState) (trail : Trail) (t t' : Told) (past : Option Past) (taken : Option Text) → lives.probed ≡ true
     → HasProbedAll r lives settings path state (drivers_of path trail) t t' past taken → HasLooked r lives settings (Label.State path state) trail t t' past taken
 looks_so (Ok done) lives settings path state trail t t' past taken all h = λ s.
-  subst (λ (p : Place). Leads lives settings p (Acts (record s { trail = trail; told = t' }))) (sym (probes_behind lives path state (record s { trail = trail; told = t }) all)) (h (record s { trail = trail }))
+    subst (λ (p : Place). Leads lives settings p (Acts (record s { trail = trail; told = t' }))) (sym (probes_behind lives path state (record s { trail = trail; told = t }) all)) (h (record s { trail = trail }))
 looks_so (Err stop) lives settings path state trail t t' past taken all h = λ s.
-  subst (λ (p : Place). StopsAt stop lives settings p t' past taken) (sym (probes_behind lives path state (record s { trail = trail; told = t }) all)) (h (record s { trail = trail }))
+    subst (λ (p : Place). StopsAt stop lives settings p t' past taken) (sym (probes_behind lives path state (record s { trail = trail; told = t }) all)) (h (record s { trail = trail }))
 
 pub looks_at_all : (r : Result (Unit {0}) Stop) (lives : Lives) (settings : Settings) (label : Label) (path : Text) (state : DevState) (trail : Trail) (t t' : Told) (past : Option Past) (taken : Option Text) → lives.probed ≡ true
     → label ≡ Label.State path state → HasProbedAll r lives settings path state (drivers_of path trail) t t' past taken → HasLooked r lives settings label trail t t' past taken

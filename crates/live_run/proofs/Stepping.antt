@@ -1,5 +1,5 @@
 -- How a step of a live run goes, from its ask on.
-use Rattle.std.proofs.Common.{ℕ, ◌≡◌, ◌+◌, Bool, true, false, List, [], ◌∷◌, Option, Some, None, refl, sym, ap, ◌∙◌, subst}
+use Rattle.std.proofs.Common.{ℕ, ◌≡◌, ◌+◌, Bool, true, false, List, [], ◌∷◌, ◌++◌, Option, Some, None, refl, sym, ap, ◌∙◌, subst}
 use Rattle.std.specs.Prelude.{Result, Ok, Err, is_some}
 use Rattle.live_io.specs.Turns.{Past}
 use Rattle.pnp_labels.specs.Texts.{Text, label_line}
@@ -39,7 +39,7 @@ some_asked ask s None h = absurd h
 some_asked ask s (Some q) h = (q, refl, h)
 
 asked_of : (lives : Lives) (rack : List Driver) (o : Option Query) (q : Query) → live_if lives rack o ≡ Some q → o ≡ None → ⊥
-asked_of lives rack None q is none = let e : None {A = Query} ≡ Some q = is in cc
+asked_of lives rack None q is none = let e : ◌≡◌ {A = Option Query} None (Some q) = is in cc
 asked_of lives rack (Some p) q is none = cc
 
 -- where no step is next no driver is asked
@@ -63,7 +63,7 @@ own_step lives settings old new (Some label) t past taken none steps =
 -- it is given up before anything is asked
 pub begun_here : (lives : Lives) (settings : Settings) (old new : State) (t : Told) (past : Option Past) (taken : Option Text) (e : DriveError)
     → IsFront t past taken → NextIs (Err (Stop.Fault e)) lives settings old new t t past taken
-begun_here lives settings old new t past taken e front = λ s. record { there = Acts (from old t s); leads = Leads.here (Acts (from old t s)); front = front }
+begun_here lives settings old new t past taken e begun = λ s. record { there = Acts (from old t s); leads = Leads.here (Acts (from old t s)); front = begun }
 
 -- A step of a live driver ------------------------------------------------------------------------
 
@@ -84,10 +84,10 @@ answered lives settings old new q answer label t t' is h steps =
     let talk : t' ≡ there = h.talk in (
       record { heard = Some h.reply.answer; steps = made },
       λ s. subst (λ (u : Told). Leads lives settings (Acts (from old t s)) (behind_line lives label (labelled lives label new (record s { told = u })))) (sym talk)
-      (leads_on lives settings (Acts (from old t s)) (Asks (AsksStep q) (asking_it old q t s)) (behind_line lives label (labelled lives label new (record s { told = there })))
-      (asks_it lives settings old q t is s)
-      (leads_one lives settings (Asks (AsksStep q) (asking_it old q t s)) (behind_line lives label (labelled lives label new (record s { told = there })))
-      (Goes.answered (asking_it old q t s) q h.line h.rest h.reply label new h.comes h.is made))),
+          (leads_on lives settings (Acts (from old t s)) (Asks (AsksStep q) (asking_it old q t s)) (behind_line lives label (labelled lives label new (record s { told = there })))
+          (asks_it lives settings old q t is s)
+          (leads_one lives settings (Asks (AsksStep q) (asking_it old q t s)) (behind_line lives label (labelled lives label new (record s { told = there })))
+          (Goes.answered (asking_it old q t s) q h.line h.rest h.reply label new h.comes h.is made))),
     )
 
 -- The same in the words of the ask that the machine told ---------------------------------------------
@@ -106,10 +106,10 @@ live_step lives settings old new q words driver may answer (Some label) t t' pas
 -- it is given up once the ask was to be said
 pub begun_asked : (lives : Lives) (settings : Settings) (old new : State) (q : Query) (words : Text) (t t' : Told) (past : Option Past) (taken : Option Text) (e : DriveError)
     → live_query lives old ≡ Some q → words ≡ query_words old q → IsFront (asked words t) past taken → NextIs (Err (Stop.Fault e)) lives settings old new t t' past taken
-begun_asked lives settings old new q words t t' past taken e is words_is front = λ s. record {
+begun_asked lives settings old new q words t t' past taken e is words_is begun = λ s. record {
   there = Asks (AsksStep q) (asking_it old q t s);
   leads = asks_it lives settings old q t is s;
-  front = subst (λ (w : Text). IsFront (asked w t) past taken) words_is front;
+  front = subst (λ (w : Text). IsFront (asked w t) past taken) words_is begun;
 }
 
 -- no answer is heard
@@ -117,13 +117,13 @@ pub unanswered : (stop : Stop) (lives : Lives) (settings : Settings) (old new : 
     → live_query lives old ≡ Some q → words ≡ query_words old q → may ≡ may_pend q.what
     → HasAnswered (Err stop) may driver (asked words t) t' past taken → NextIs (Err stop) lives settings old new t t' past taken
 unanswered Stop.End lives settings old new q words driver may t t' past taken is words_is may_is h = λ s.
-  loses_on lives settings (Acts (from old t s)) (Asks (AsksStep q) (asking_it old q t s)) outputs.AnswersEnd outputs.end_line t' (asks_it lives settings old q t is s)
-  (lost_none lives settings (AsksStep q) (asking_it old q t s) t' (subst (λ (w : Text). HasAnswered (Err Stop.End) may driver (asked w t) t' past taken) words_is h))
+    loses_on lives settings (Acts (from old t s)) (Asks (AsksStep q) (asking_it old q t s)) outputs.AnswersEnd outputs.end_line t' (asks_it lives settings old q t is s)
+    (lost_none lives settings (AsksStep q) (asking_it old q t s) t' (subst (λ (w : Text). HasAnswered (Err Stop.End) may driver (asked w t) t' past taken) words_is h))
 unanswered Stop.Bad lives settings old new q words driver may t t' past taken is words_is may_is h = λ s.
-  loses_on lives settings (Acts (from old t s)) (Asks (AsksStep q) (asking_it old q t s)) outputs.AnswersBad outputs.bad_line t' (asks_it lives settings old q t is s)
-  (lost_bad lives settings (AsksStep q) (asking_it old q t s) t'
-  (subst (λ (b : Bool). HearsBad (λ line. is_some (reply_in (t.asks + 1) b line)) (asked (query_words old q) t) t') may_is
-  (subst (λ (w : Text). HasAnswered (Err Stop.Bad) may driver (asked w t) t' past taken) words_is h)))
+    loses_on lives settings (Acts (from old t s)) (Asks (AsksStep q) (asking_it old q t s)) outputs.AnswersBad outputs.bad_line t' (asks_it lives settings old q t is s)
+    (lost_bad lives settings (AsksStep q) (asking_it old q t s) t'
+    (subst (λ (b : Bool). HearsBad (λ line. is_some (reply_in (t.asks + 1) b line)) (asked (query_words old q) t) t') may_is
+    (subst (λ (w : Text). HasAnswered (Err Stop.Bad) may driver (asked w t) t' past taken) words_is h)))
 unanswered (Stop.Fault e) lives settings old new q words driver may t t' past taken is words_is may_is h = begun_asked lives settings old new q words t t' past taken e is words_is h
 
 -- A step whole: its line is said, and live drivers are probed behind it --------------------------------
@@ -142,9 +142,9 @@ pub stepped : (lives : Lives) (settings : Settings) (label : Label) (old new : S
 stepped lives settings label old new trail trail' t t' t2 t3 past past' taken taken' next told_is trail_is looked = (
   (label, next.0),
   λ s. leads_on lives settings (Acts (at old trail t s)) (behind_line lives label (at new (follow lives label trail) (with_line label t') s)) (Acts (at new trail' t3 s))
-  (line_said lives settings label old new trail t t' past taken next s)
-  (subst (λ (u : Told). Leads lives settings (behind_line lives label (at new (follow lives label trail) u s)) (Acts (at new trail' t3 s))) told_is
-  (subst (λ (r : Trail). Leads lives settings (behind_line lives label (at new r t2 s)) (Acts (at new trail' t3 s))) trail_is (looked (record s { state = new })))),
+      (line_said lives settings label old new trail t t' past taken next s)
+      (subst (λ (u : Told). Leads lives settings (behind_line lives label (at new (follow lives label trail) u s)) (Acts (at new trail' t3 s))) told_is
+      (subst (λ (r : Trail). Leads lives settings (behind_line lives label (at new r t2 s)) (Acts (at new trail' t3 s))) trail_is (looked (record s { state = new })))),
 )
 
 pub no_step : (lives : Lives) (settings : Settings) (old new : State) (trail : Trail) (t t' : Told) (past : Option Past) (taken : Option Text)
@@ -159,19 +159,19 @@ not_stepped stop lives settings old new trail t t' past taken next = λ s. next 
 -- it is given up where the line was to be said
 pub not_said : (lives : Lives) (settings : Settings) (label : Label) (old new : State) (trail : Trail) (t t' : Told) (there : Scene) (past past' : Option Past) (taken taken' : Option Text) (e : DriveError)
     → NextIs (Ok (Some label)) lives settings old new t t' past taken → IsFront (with_line label t') past' taken' → HasStepped (Err (Stop.Fault e)) lives settings (scene old trail t) there past' taken'
-not_said lives settings label old new trail t t' there past past' taken taken' e next front = λ s.
-  let at_line : Stand = at new (follow lives label trail) (with_line label t') s in record {
-    there = behind_line lives label at_line;
-    leads = line_said lives settings label old new trail t t' past taken next s;
-    front = subst (λ (u : Told). IsFront u past' taken') (sym (ap (λ (z : Stand). z.told) (stands_behind lives label at_line))) front;
-  }
+not_said lives settings label old new trail t t' there past past' taken taken' e next begun = λ s.
+    let at_line : Stand = at new (follow lives label trail) (with_line label t') s in record {
+      there = behind_line lives label at_line;
+      leads = line_said lives settings label old new trail t t' past taken next s;
+      front = subst (λ (u : Told). IsFront u past' taken') (sym (ap (λ (z : Stand). z.told) (stands_behind lives label at_line))) begun;
+    }
 
 -- or behind it
 pub not_looked : (stop : Stop) (lives : Lives) (settings : Settings) (label : Label) (old new : State) (trail trail' : Trail) (t t' t2 t3 : Told) (past past' : Option Past) (taken taken' : Option Text)
     → NextIs (Ok (Some label)) lives settings old new t t' past taken → t2 ≡ with_line label t' → trail' ≡ follow lives label trail → HasLooked (Err stop) lives settings label trail' t2 t3 past' taken'
     → HasStepped (Err stop) lives settings (scene old trail t) (scene new trail' t3) past' taken'
 not_looked stop lives settings label old new trail trail' t t' t2 t3 past past' taken taken' next told_is trail_is looked = λ s.
-  stops_on stop lives settings (Acts (at old trail t s)) (behind_line lives label (at new (follow lives label trail) (with_line label t') s)) t3 past' taken'
-  (line_said lives settings label old new trail t t' past taken next s)
-  (subst (λ (u : Told). StopsAt stop lives settings (behind_line lives label (at new (follow lives label trail) u s)) t3 past' taken') told_is
-  (subst (λ (r : Trail). StopsAt stop lives settings (behind_line lives label (at new r t2 s)) t3 past' taken') trail_is (looked (record s { state = new }))))
+    stops_on stop lives settings (Acts (at old trail t s)) (behind_line lives label (at new (follow lives label trail) (with_line label t') s)) t3 past' taken'
+    (line_said lives settings label old new trail t t' past taken next s)
+    (subst (λ (u : Told). StopsAt stop lives settings (behind_line lives label (at new (follow lives label trail) u s)) t3 past' taken') told_is
+    (subst (λ (r : Trail). StopsAt stop lives settings (behind_line lives label (at new r t2 s)) t3 past' taken') trail_is (looked (record s { state = new }))))

@@ -97,29 +97,26 @@ impl Talk {
         let Some(words) = words_of(alloc, &self.line, self.asks)? else {
             return Ok(Polled::Bad);
         };
-        match words.as_slice() {
-            [word] => {
-                if is_word(word, b"none") {
-                    Ok(Polled::Nothing)
-                } else {
-                    Ok(Polled::Bad)
-                }
+        if let [word] = words.as_slice() {
+            if is_word(word, b"none") {
+                return Ok(Polled::Nothing);
             }
-            [word, path, minor, ok, tags @ ..] => {
-                take_completion(
-                    alloc,
-                    &mut self.said,
-                    self.asks,
-                    trail,
-                    word,
-                    path,
-                    minor,
-                    ok,
-                    tags,
-                )
-            }
-            _ => Ok(Polled::Bad),
+            return Ok(Polled::Bad);
         }
+        if let [word, path, minor, ok, tags @ ..] = words.as_slice() {
+            return take_completion(
+                alloc,
+                &mut self.said,
+                self.asks,
+                trail,
+                word,
+                path,
+                minor,
+                ok,
+                tags,
+            );
+        }
+        Ok(Polled::Bad)
     }
 
     /// Asks whether one of the requests that wait completes: the event that it does, and what is to be said before its line; or none.

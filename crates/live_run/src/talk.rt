@@ -57,6 +57,7 @@ impl Talk {
     #[tactic(auto, using(crate::proofs::Faults::rose_behind))]
     fn turn<P: Peer>(&mut self, peer: &mut P) -> Result<(), Stop>
         ensures turn { IsTurn result (told self.old (P.past peer.old) (P.taken peer.old) (P.answers peer.old)) (told self.new (P.past peer.new) (P.taken peer.new) (P.answers peer.new)) self.new.line.items (P.past peer.new) (P.taken peer.new) }
+        ensures all { OnOk result (self.new.said.items ≡ []) }
         ensures write_fault { IsErrOf result (Stop.Fault WriteFault) → Rose (P.write_faults peer.old) (P.write_faults peer.new) }
         ensures read_fault { IsErrOf result (Stop.Fault ReadFault) → Rose (P.read_faults peer.old) (P.read_faults peer.new) }
         ensures writes { P.write_faults peer.old ≤ P.write_faults peer.new }
@@ -76,6 +77,7 @@ impl Talk {
     pub(crate) fn hear_hello<P: Peer>(&mut self, peer: &mut P) -> Result<(), Stop>
         requires said { self.old.said.items ≡ [] }
         ensures greeted { HasGreeted result (told self.old (P.past peer.old) (P.taken peer.old) (P.answers peer.old)) (told self.new (P.past peer.new) (P.taken peer.new) (P.answers peer.new)) (P.past peer.new) (P.taken peer.new) }
+        ensures all { OnOk result (self.new.said.items ≡ []) }
         ensures write_fault { IsErrOf result (Stop.Fault WriteFault) → Rose (P.write_faults peer.old) (P.write_faults peer.new) }
         ensures read_fault { IsErrOf result (Stop.Fault ReadFault) → Rose (P.read_faults peer.old) (P.read_faults peer.new) }
         ensures writes { P.write_faults peer.old ≤ P.write_faults peer.new }
