@@ -1,5 +1,5 @@
 -- How a run begins, and how it ends where the answers do.
-use Rattle.std.proofs.Common.{ℕ, ◌≡◌, Bool, true, false, List, [], ◌∷◌, ◌++◌, Option, Some, None, refl, sym, ap, ◌∙◌, subst, inl, inr}
+use Rattle.std.proofs.Common.{ℕ, ◌≡◌, Bool, true, false, List, [], ◌∷◌, ◌++◌, Option, Some, None, refl, sym, ap, ◌∙◌, append_assoc, subst, inl, inr}
 use Rattle.std.specs.Prelude.{Result, Ok, Err, option_map}
 use Rattle.std.specs.Str.{bytes_eq}
 use Rattle.live_io.specs.Turns.{Hears, Past, with_said}
@@ -19,7 +19,7 @@ use Rattle.live_run.specs.Talks.{HasGreeted, HearsBad, HearsNone, HearsOther, Is
 use Rattle.live_run.specs.declared.stop.DriveError.{DriveError}
 use Rattle.live_run.specs.declared.stop.Ended.{Ended}
 use Rattle.live_run.specs.declared.stop.Stop.{Stop}
-use Rattle.live_run.proofs.Talking.{past_nothing, pushed, taken_nothing}
+use Rattle.live_run.proofs.Talking.{past_nothing, pushed, says_is, taken_nothing}
 
 -- What is said -----------------------------------------------------------------------------------
 
@@ -40,6 +40,15 @@ said_all more asks said said' past past' taken taken' answers answers' is all sa
     ∙ ap (λ (t : Option Text). untalked (option_map (with_said said') past) t answers') (sym all.said)
     ∙ ap (untalked (option_map (with_said said') past) (option_map (with_more said') taken)) same
     ∙ ap (λ (t : Told). record t { asks = 0 }) (pushed more asks said said' past taken answers is)
+
+-- one text and then another
+pub said_more : (one more : Text) (asks : ℕ) (said said' : Text) (past : Option Past) (taken answers : Option Text) → said' ≡ said ++ one
+    → says more (told_by asks said' past taken answers) ≡ says (one ++ more) (told_by asks said past taken answers)
+said_more one more asks said said' past taken answers is =
+    says_is more asks said' past taken answers
+    ∙ ap (λ (s : Text). told_by asks (s ++ more) past taken answers) is
+    ∙ ap (λ (s : Text). told_by asks s past taken answers) (append_assoc said one more)
+    ∙ sym (says_is (one ++ more) asks said past taken answers)
 
 -- a front is one whatever is still to be heard
 front_same : (t u : Told) (past : Option Past) (taken : Option Text) → t.past ≡ u.past → t.taken ≡ u.taken → IsFront t past taken → IsFront u past taken
@@ -87,10 +96,10 @@ greets_none past taken answers old new after first has said =
 
 pub greets_none_front : (past past' : Option Past) (taken taken' answers : Option Text) (old new : Told) → old ≡ untalked past taken answers → HearsNone Over old new
     → IsFront (says (end_line new.asks) new) past' taken' → GreetsFront (untalked past taken answers) past' taken'
-greets_none_front past past' taken taken' answers old new first has front = record {
+greets_none_front past past' taken taken' answers old new first has part = record {
   there = says (end_line 0) (hears None new.answers (untalked past taken answers));
   comes = inr (Some outputs.AnswersEnd, ends_first past taken answers old new first has);
-  front = subst (λ (t : Told). IsFront t past' taken') (spoken_first end_line None past taken answers old new first has.talk) front;
+  front = subst (λ (t : Told). IsFront t past' taken') (spoken_first end_line None past taken answers old new first has.talk) part;
 }
 
 -- it is too long, or another line
@@ -111,20 +120,20 @@ greets_bad past taken answers old new after first (inr has) said =
 
 pub greets_bad_front : (past past' : Option Past) (taken taken' answers : Option Text) (old new : Told) → old ≡ untalked past taken answers → HearsBad (λ line. bytes_eq line hello) old new
     → IsFront (says (bad_line new.asks) new) past' taken' → GreetsFront (untalked past taken answers) past' taken'
-greets_bad_front past past' taken taken' answers old new first (inl has) front = record {
+greets_bad_front past past' taken taken' answers old new first (inl has) part = record {
   there = says (bad_line 0) (hears None new.answers (untalked past taken answers));
   comes = inr (Some outputs.AnswersBad, long_first past taken answers old new first has);
-  front = subst (λ (t : Told). IsFront t past' taken') (spoken_first bad_line None past taken answers old new first has.talk) front;
+  front = subst (λ (t : Told). IsFront t past' taken') (spoken_first bad_line None past taken answers old new first has.talk) part;
 }
-greets_bad_front past past' taken taken' answers old new first (inr has) front = record {
+greets_bad_front past past' taken taken' answers old new first (inr has) part = record {
   there = says (bad_line 0) (hears (Some has.line) new.answers (untalked past taken answers));
   comes = inr (Some outputs.AnswersBad, other_first past taken answers old new first has);
-  front = subst (λ (t : Told). IsFront t past' taken') (spoken_first bad_line (Some has.line) past taken answers old new first has.talk) front;
+  front = subst (λ (t : Told). IsFront t past' taken') (spoken_first bad_line (Some has.line) past taken answers old new first has.talk) part;
 }
 
 -- the run is given up before it begins
 pub greets_fault : (past past' : Option Past) (taken taken' answers : Option Text) (old : Told) → old ≡ untalked past taken answers → IsFront old past' taken' → GreetsFront (untalked past taken answers) past' taken'
-greets_fault past past' taken taken' answers old first front = record { there = untalked past taken answers; comes = inl refl; front = subst (λ (t : Told). IsFront t past' taken') first front }
+greets_fault past past' taken taken' answers old first part = record { there = untalked past taken answers; comes = inl refl; front = subst (λ (t : Told). IsFront t past' taken') first part }
 
 -- The whole run ------------------------------------------------------------------------------------
 
@@ -182,11 +191,11 @@ lost_said lives settings first ended line told after lost said = record {
 -- or a front of it
 lost_front : (lives : Lives) (settings : Settings) (first : Stand) (ended : outputs.Ended) (line : ℕ → Text) (told : Told) (past : Option Past) (taken : Option Text)
     → Loses lives settings (Acts first) ended line told → IsFront (says (line told.asks) told) past taken → HasBegun lives settings (Acts first) past taken
-lost_front lives settings first ended line told past taken lost front = record {
+lost_front lives settings first ended line told past taken lost part = record {
   there = IsOver ended (saying (line lost.last.told.asks) lost.last);
   leads = lost.leads;
   front = front_same (says (line told.asks) told) (says (line lost.last.told.asks) lost.last.told) past taken
-    (lost_heard lives settings (Acts first) ended line told lost) (lost_taken lives settings (Acts first) ended line told lost) front;
+    (lost_heard lives settings (Acts first) ended line told lost) (lost_taken lives settings (Acts first) ended line told lost) part;
 }
 
 pub lives_end : (lives : Lives) (settings : Settings) (state : State) (trail : Trail) (told new after : Told) (past past' : Option Past) (taken taken' answers : Option Text) (script : Trace)
@@ -199,9 +208,9 @@ lives_end lives settings state trail told new after past past' taken taken' answ
 pub lives_end_front : (lives : Lives) (settings : Settings) (state : State) (trail : Trail) (told new : Told) (past past' past'' : Option Past) (taken taken' taken'' answers : Option Text) (script : Trace)
     → trail ≡ no_trail → told ≡ untalked past taken answers → HasPlayed (Err Stop.End) lives settings (scene state trail told) script new past' taken'
     → IsFront (says (end_line new.asks) new) past'' taken'' → HasBegun lives settings (Acts (beginning state (untalked past taken answers) script)) past'' taken''
-lives_end_front lives settings state trail told new past past' past'' taken taken' taken'' answers script none first played front =
+lives_end_front lives settings state trail told new past past' past'' taken taken' taken'' answers script none first played part =
     lost_front lives settings (beginning state (untalked past taken answers) script) outputs.AnswersEnd end_line new past'' taken''
-    (stops_out lives settings state trail told new past past' taken taken' answers script Stop.End none first played) front
+    (stops_out lives settings state trail told new past past' taken taken' answers script Stop.End none first played) part
 
 pub lives_bad : (lives : Lives) (settings : Settings) (state : State) (trail : Trail) (told new after : Told) (past past' : Option Past) (taken taken' answers : Option Text) (script : Trace)
     → trail ≡ no_trail → told ≡ untalked past taken answers → HasPlayed (Err Stop.Bad) lives settings (scene state trail told) script new past' taken'
@@ -213,6 +222,6 @@ lives_bad lives settings state trail told new after past past' taken taken' answ
 pub lives_bad_front : (lives : Lives) (settings : Settings) (state : State) (trail : Trail) (told new : Told) (past past' past'' : Option Past) (taken taken' taken'' answers : Option Text) (script : Trace)
     → trail ≡ no_trail → told ≡ untalked past taken answers → HasPlayed (Err Stop.Bad) lives settings (scene state trail told) script new past' taken'
     → IsFront (says (bad_line new.asks) new) past'' taken'' → HasBegun lives settings (Acts (beginning state (untalked past taken answers) script)) past'' taken''
-lives_bad_front lives settings state trail told new past past' past'' taken taken' taken'' answers script none first played front =
+lives_bad_front lives settings state trail told new past past' past'' taken taken' taken'' answers script none first played part =
     lost_front lives settings (beginning state (untalked past taken answers) script) outputs.AnswersBad bad_line new past'' taken''
-    (stops_out lives settings state trail told new past past' taken taken' answers script Stop.Bad none first played) front
+    (stops_out lives settings state trail told new past past' taken taken' answers script Stop.Bad none first played) part

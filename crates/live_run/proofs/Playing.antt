@@ -82,11 +82,11 @@ end_next lives settings here told script rest past taken is said =
 -- a front of the end was said
 pub end_begins : (e : DriveError) (lives : Lives) (settings : Settings) (here : Scene) (told : Told) (script rest : Trace) (past : Option Past) (taken : Option Text)
     → script ≡ scripts.ends → IsFront (says (end_text here.state) here.told) past taken → IsNext (Err (Stop.Fault e)) lives settings Rests here told script rest past taken
-end_begins e lives settings here told script rest past taken is front =
+end_begins e lives settings here told script rest past taken is part =
     λ s.
       let at = with_script script (in_scene here s) in
       let last = saying (end_text here.state) at in
-      record { there = IsOver outputs.Done last; leads = leads_one lives settings (Rests at) (IsOver outputs.Done last) (Goes.done at is); front = front }
+      record { there = IsOver outputs.Done last; leads = leads_one lives settings (Rests at) (IsOver outputs.Done last) (Goes.done at is); front = part }
 
 -- a line is bad, and that and the end were said
 pub bad_next : (lives : Lives) (settings : Settings) (here : Scene) (told : Told) (number : ℕ) (script rest : Trace) (past : Option Past) (taken : Option Text)
@@ -101,11 +101,11 @@ bad_next lives settings here told number script rest past taken is said =
 -- a front of that was said
 pub bad_begins : (e : DriveError) (lives : Lives) (settings : Settings) (here : Scene) (told : Told) (number : ℕ) (script rest : Trace) (past : Option Past) (taken : Option Text)
     → script ≡ stops number → IsFront (says (error_line number ++ end_text here.state) here.told) past taken → IsNext (Err (Stop.Fault e)) lives settings Rests here told script rest past taken
-bad_begins e lives settings here told number script rest past taken is front =
+bad_begins e lives settings here told number script rest past taken is part =
     λ s.
       let at = with_script script (in_scene here s) in
       let last = saying (error_line number ++ end_text here.state) at in
-      record { there = IsOver outputs.BadLine last; leads = leads_one lives settings (Rests at) (IsOver outputs.BadLine last) (Goes.bad at number is); front = front }
+      record { there = IsOver outputs.BadLine last; leads = leads_one lives settings (Rests at) (IsOver outputs.BadLine last) (Goes.bad at number is); front = part }
 
 -- nothing came of it
 pub nothing_next : (e : DriveError) (lives : Lives) (settings : Settings) (state : State) (trail : Trail) (told : Told) (asks : ℕ) (said : Text) (script rest : Trace) (past : Option Past) (taken answers : Option Text)

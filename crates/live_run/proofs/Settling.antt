@@ -28,6 +28,9 @@ use Rattle.live_run.proofs.Talking.{unsaid, unsaid_more}
 abbrev pub Steps : Lives → Settings → Scene → Scene → Type 0
 Steps lives settings old new = (s : Stand) → Leads lives settings (Acts (in_scene old s)) (Acts (in_scene new s))
 
+pub no_steps : (lives : Lives) (settings : Settings) (here : Scene) → Steps lives settings here here
+no_steps lives settings here = λ s. Leads.here (Acts (in_scene here s))
+
 pub one_more : (b : Bool) (lives : Lives) (settings : Settings) (first old new : Scene) (past : Option Past) (taken : Option Text)
     → b ≡ true → Steps lives settings first old → HasStepped (Ok b) lives settings old new past taken → Steps lives settings first new
 one_more true lives settings first old new past taken is steps has = λ s. leads_on lives settings (Acts (in_scene first s)) (Acts (in_scene old s)) (Acts (in_scene new s)) (steps s) (has.1 s)
@@ -58,8 +61,8 @@ too_many e lives settings first state trail asks said past taken answers steps =
 -- what was said of it is a front
 pub event_front : (e : DriveError) (lives : Lives) (settings : Settings) (old new : Scene) (event : Event) (past : Option Past) (taken : Option Text)
     → IsFront (says (label_line (happens old.state event).label ++ 10 ∷ []) old.told) past taken → HasFollowed (Err (Stop.Fault e)) lives settings old event new past taken
-event_front e lives settings old new event past taken front =
-    λ s line rest. record { there = behind_event lives old event line rest s; leads = Leads.here (behind_event lives old event line rest s); front = front }
+event_front e lives settings old new event past taken part =
+    λ s line rest. record { there = behind_event lives old event line rest s; leads = Leads.here (behind_event lives old event line rest s); front = part }
 
 -- nothing was said of it
 pub event_unsaid : (e : DriveError) (lives : Lives) (settings : Settings) (state : State) (trail : Trail) (new : Scene) (event : Event) (asks : ℕ) (said : Text) (past : Option Past) (taken answers : Option Text)
@@ -71,8 +74,8 @@ event_unsaid e lives settings state trail new event asks said past taken answers
 -- a front of its line was said
 pub event_part : (e : DriveError) (lives : Lives) (settings : Settings) (old new : Scene) (event : Event) (label : Label) (state : State) (past : Option Past) (taken : Option Text)
     → HasHappened (happens old.state event) label state → IsFront (says (label_line label ++ 10 ∷ []) old.told) past taken → HasFollowed (Err (Stop.Fault e)) lives settings old event new past taken
-event_part e lives settings old new event label state past taken has front =
-    event_front e lives settings old new event past taken (subst (λ (l : Label). IsFront (says (label_line l ++ 10 ∷ []) old.told) past taken) has.0 front)
+event_part e lives settings old new event label state past taken has part =
+    event_front e lives settings old new event past taken (subst (λ (l : Label). IsFront (says (label_line l ++ 10 ∷ []) old.told) past taken) has.0 part)
 
 -- all of it counts as said
 pub event_said : (e : DriveError) (lives : Lives) (settings : Settings) (old new : Scene) (event : Event) (label : Label) (state : State) (asks : ℕ) (said : Text) (past : Option Past) (taken answers : Option Text)
