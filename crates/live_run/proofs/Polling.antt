@@ -1,5 +1,5 @@
 -- What the answers to a poll and to a probe come to.
-use Rattle.std.proofs.Common.{arith, ℕ, ◌≡◌, ◌≢◌, ◌<◌, ◌++◌, Bool, true, false, List, [], ◌∷◌, Option, Some, None, length, map, refl, sym, ap, ◌∙◌, subst, inl, inr}
+use Rattle.std.proofs.Common.{arith, ℕ, ◌≡◌, ◌<◌, ◌≤◌, ◌++◌, Bool, true, false, List, [], ◌∷◌, Option, Some, None, length, map, refl, sym, ap, ◌∙◌, subst, inl, inr}
 use Rattle.std.specs.Prelude.{◌&&◌, IfOk, IsErr, IsErrAnd, Result, Ok, Err, codes, if◌then◌else◌, is_some}
 use Rattle.std.specs.Str.{bytes_eq}
 use Rattle.device_ids.specs.Ids.{is_path}
@@ -10,7 +10,7 @@ use Rattle.pnp_labels.specs.declared.states.DevState.{DevState}
 use Rattle.pnp_labels.specs.declared.words.Minor.{Minor}
 use Rattle.script_reader.specs.Tables.{minor_of, ok_of}
 use Rattle.live_model.specs.Answers as answers
-use Rattle.live_model.specs.Answers.{Completion, Reply, are_tags, completes, completion_by, polled_in, polled_words, reply_in, words_in}
+use Rattle.live_model.specs.Answers.{Completion, Reply, are_tags, completes, completion_by, polled_in, polled_words, reply_in}
 use Rattle.live_model.specs.Fronts.{IsFront}
 use Rattle.live_model.specs.Notes.{broke_lines, done_line, probe_lines}
 use Rattle.live_model.specs.Outputs.{Told, is_polled}
@@ -70,19 +70,19 @@ takes_completed (Ok polled) ask t word path request how tags minor ok old new na
 takes_completed (Err e) ask t word path request how tags minor ok old new named tagged minor_is ok_is h = tt
 
 -- neither one word nor four: no answer
-few_words : {A : Type 0} (f : A → Text) (xs : List A) → length xs ≢ 1 → length xs < 4 → polled_words (Some (map f xs)) ≡ None
-few_words f [] other few = refl
-few_words f (a ∷ []) other few = absurd (omega arith)
-few_words f (a ∷ b ∷ []) other few = refl
-few_words f (a ∷ b ∷ c ∷ []) other few = refl
-few_words f (a ∷ b ∷ c ∷ d ∷ more) other few = absurd (omega arith)
+pub few_words : {A : Type 0} (f : A → Text) (word : Text) (more : List A) (t : Trail) → 0 < length more → length more < 3 → is_polled t (polled_words (Some (word ∷ map f more))) ≡ false
+few_words f word [] t some few = absurd (omega arith)
+few_words f word (a ∷ []) t some few = refl
+few_words f word (a ∷ b ∷ []) t some few = refl
+few_words f word (a ∷ b ∷ c ∷ more) t some few = absurd (omega arith)
 
-pub few_polled : {A : Type 0} (f : A → Text) (xs : List A) (asks : ℕ) (line heard : Text) (o : Option (List Text)) (t : Trail) → o ≡ words_in asks heard → o ≡ Some (map f xs) → heard ≡ line → length xs ≢ 1 → length xs < 4
-    → is_polled t (polled_in asks line) ≡ false
-few_polled f xs asks line heard o t read is same other few =
-    ap (λ (l : Text). is_polled t (polled_in asks l)) (sym same)
-    ∙ ap (λ (w : Option (List Text)). is_polled t (polled_words w)) (sym read ∙ is)
-    ∙ ap (is_polled t) (few_words f xs other few)
+pub none_completes : {A : Type 0} (f : A → Text) (word : Text) (more : List A) → length more ≤ 0 → bytes_eq word (codes "none") ≡ true → polled_words (Some (word ∷ map f more)) ≡ Some answers.nothing
+none_completes f word [] none is = ap (λ (b : Bool). if b then Some answers.nothing else None) is
+none_completes f word (a ∷ more) none is = absurd (omega arith)
+
+pub other_word : {A : Type 0} (f : A → Text) (word : Text) (more : List A) (t : Trail) → length more ≤ 0 → bytes_eq word (codes "none") ≡ false → is_polled t (polled_words (Some (word ∷ map f more))) ≡ false
+other_word f word [] t none other = ap (λ (b : Bool). is_polled t (if b then Some answers.nothing else None)) other
+other_word f word (a ∷ more) t none other = absurd (omega arith)
 
 -- What a poll comes to -------------------------------------------------------------------------------
 

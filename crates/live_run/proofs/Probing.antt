@@ -135,3 +135,13 @@ pub looks_at_all : (r : Result (Unit {0}) Stop) (lives : Lives) (settings : Sett
     → label ≡ Label.State path state → HasProbedAll r lives settings path state (drivers_of path trail) t t' past taken → HasLooked r lives settings label trail t t' past taken
 looks_at_all r lives settings label path state trail t t' past taken all is h =
     subst (λ (l : Label). HasLooked r lives settings l trail t t' past taken) (sym is) (looks_so r lives settings path state trail t t' past taken all h)
+
+elsewhere : (lives : Lives) (label : Label) (s : Stand) → ((path : Text) (state : DevState) → label ≡ Label.State path state → ⊥) → behind_line lives label s ≡ Acts s
+elsewhere lives (Label.State path state) s other = absurd (other path state refl)
+elsewhere lives _ s other = refl
+
+pub looks_nowhere : (lives : Lives) (settings : Settings) (label : Label) (trail : Trail) (t : Told) (past : Option Past) (taken : Option Text)
+    → ((path : Text) (state : DevState) → label ≡ Label.State path state → ⊥) → HasLooked (Ok tt) lives settings label trail t t past taken
+looks_nowhere lives settings label trail t past taken other = λ s.
+    let there : Stand = record s { trail = trail; told = t } in
+    subst (λ (p : Place). Leads lives settings p (Acts there)) (sym (elsewhere lives label there other)) (Leads.here (Acts there))

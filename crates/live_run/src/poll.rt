@@ -87,6 +87,30 @@ fn take_completion(
     complete(alloc, said, ask, trail, path, minor, ok, tags)
 }
 
+/// What a word and those behind it tell, as the answer to a poll: `none` alone, or a completion.
+fn take_words(
+    alloc: Global,
+    said: &mut Vec<u8>,
+    ask: u64,
+    trail: &Trail,
+    word: &[u8],
+    more: &[&[u8]],
+) -> Result<Polled, WantOfMemory>
+    ensures { IfOk result (λ polled. TakesPolled polled (polled_words (Some (word.now ∷ map (λ t. t.now) more.now))) ask (trail_of trail.now) said.old.items said.new.items) }
+{
+    if let [path, minor, ok, tags @ ..] = more {
+        return take_completion(alloc, said, ask, trail, word, path, minor, ok, tags);
+    }
+    if more.len() > 0 {
+        return Ok(Polled::Bad);
+    }
+    if is_word(word, b"none") {
+        Ok(Polled::Nothing)
+    } else {
+        Ok(Polled::Bad)
+    }
+}
+
 impl Talk {
     /// Takes the line that was heard as the answer to a poll.
     fn take_polled(&mut self, alloc: Global, trail: &Trail) -> Result<Polled, WantOfMemory>
@@ -97,26 +121,10 @@ impl Talk {
         let Some(words) = words_of(alloc, &self.line, self.asks)? else {
             return Ok(Polled::Bad);
         };
-        if let [word] = words.as_slice() {
-            if is_word(word, b"none") {
-                return Ok(Polled::Nothing);
-            }
+        let [word, more @ ..] = words.as_slice() else {
             return Ok(Polled::Bad);
-        }
-        if let [word, path, minor, ok, tags @ ..] = words.as_slice() {
-            return take_completion(
-                alloc,
-                &mut self.said,
-                self.asks,
-                trail,
-                word,
-                path,
-                minor,
-                ok,
-                tags,
-            );
-        }
-        Ok(Polled::Bad)
+        };
+        take_words(alloc, &mut self.said, self.asks, trail, word, more)
     }
 
     /// Asks whether one of the requests that wait completes: the event that it does, and what is to be said before its line; or none.
