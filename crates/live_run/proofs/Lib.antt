@@ -3,6 +3,9 @@ mod Leading
 mod Talking
 mod Trailing
 mod Polling
+mod Settling
+mod Playing
+mod Ending
 mod Replying
 mod Probing
 mod Stepping

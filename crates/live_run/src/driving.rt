@@ -8,7 +8,7 @@ ghost use Rattle.free_model.specs.Outputs.{end_text, error_line};
 ghost use Rattle.live_model.specs.Fronts.{HasBegun, HasLived, GreetsFront, IsFront};
 ghost use Rattle.live_model.specs.Moves.{HasFewIds};
 ghost use Rattle.live_model.specs.Outputs.{Acts, Greets, Rests, beginning, says, untalked};
-ghost use Rattle.live_model.specs.Trails.{Trail};
+ghost use Rattle.live_model.specs.Trails as trails;
 ghost use Rattle.live_model.specs.Lives.{Lives};
 ghost use Rattle.live_run.specs.Runs.{HasFollowed, HasPlayed, HasSettled, IsNext, how, scene, script_of};
 ghost use Rattle.live_run.specs.Talks.{IsSaid, told};
@@ -165,7 +165,7 @@ fn next_of_script<M: Machine, P: Peer>(
     peer: &mut P,
 ) -> Result<Happening, Stop>
     requires finished { reader.old.finished ≡ true }
-    ensures next { (lives : Lives) (trail : Trail) → IsNext result lives (M.settings machine.now) Rests (scene (M.state machine.now) trail (told talk.old (P.past peer.old) (P.taken peer.old) (P.answers peer.old))) (told talk.new (P.past peer.new) (P.taken peer.new) (P.answers peer.new)) (script_of reader.old) (script_of reader.new) (P.past peer.new) (P.taken peer.new) }
+    ensures next { (lives : Lives) (trail : trails.Trail) → IsNext result lives (M.settings machine.now) Rests (scene (M.state machine.now) trail (told talk.old (P.past peer.old) (P.taken peer.old) (P.answers peer.old))) (told talk.new (P.past peer.new) (P.taken peer.new) (P.answers peer.new)) (script_of reader.old) (script_of reader.new) (P.past peer.new) (P.taken peer.new) }
     ensures finished { OnOk result (reader.new.finished ≡ true) }
     ensures write_fault { IsErrOf result (Stop.Fault WriteFault) → Rose (P.write_faults peer.old) (P.write_faults peer.new) }
     ensures read_fault { IsErrOf result (Stop.Fault ReadFault) → Rose (P.read_faults peer.old) (P.read_faults peer.new) }
@@ -178,11 +178,12 @@ fn next_of_script<M: Machine, P: Peer>(
             end_badly(alloc, machine, line, talk, peer)?;
             Ok(Happening::End(Ended::BadLine))
         }
-        // a reader that was finished needs no more
-        Next::End | Next::NeedMore => {
+        Next::End => {
             end(alloc, machine, talk, peer)?;
             Ok(Happening::End(Ended::Done))
         }
+        // a reader that was finished needs no more
+        Next::NeedMore => unreachable!(),
     }
 }
 
@@ -205,12 +206,13 @@ fn next_happening<M: Machine, P: Peer>(
     ensures writes { P.write_faults peer.old ≤ P.write_faults peer.new }
     ensures reads { P.read_faults peer.old ≤ P.read_faults peer.new }
 {
-    if trail.waits() {
-        if let Some(event) = talk.poll(alloc, trail, peer)? {
-            return Ok(Happening::Event(event));
-        }
+    if !trail.waits() {
+        return next_of_script(alloc, machine, reader, talk, peer);
     }
-    next_of_script(alloc, machine, reader, talk, peer)
+    match talk.poll(alloc, trail, peer)? {
+        Some(event) => Ok(Happening::Event(event)),
+        None => next_of_script(alloc, machine, reader, talk, peer),
+    }
 }
 
 /// The events happen, one after another, to the end.
