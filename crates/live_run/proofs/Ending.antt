@@ -1,6 +1,6 @@
 -- How a run begins, and how it ends where the answers do.
-use Rattle.std.proofs.Common.{ℕ, ◌≡◌, Bool, true, false, List, [], ◌∷◌, ◌++◌, Option, Some, None, refl, sym, ap, ◌∙◌, append_assoc, subst, inl, inr}
-use Rattle.std.specs.Prelude.{Result, Ok, Err, option_map}
+use Rattle.std.proofs.Common.{ℕ, ◌≡◌, [], ◌++◌, Option, Some, None, refl, sym, ap, ◌∙◌, append_assoc, subst, inl, inr}
+use Rattle.std.specs.Prelude.{Ok, Err, option_map}
 use Rattle.std.specs.Str.{bytes_eq}
 use Rattle.live_io.specs.Turns.{Hears, Past, with_said}
 use Rattle.live_io.specs.declared.peer.Heard.{Heard}
@@ -195,7 +195,7 @@ lost_front lives settings first ended line told past taken lost part = record {
   there = IsOver ended (saying (line lost.last.told.asks) lost.last);
   leads = lost.leads;
   front = front_same (says (line told.asks) told) (says (line lost.last.told.asks) lost.last.told) past taken
-    (lost_heard lives settings (Acts first) ended line told lost) (lost_taken lives settings (Acts first) ended line told lost) part;
+      (lost_heard lives settings (Acts first) ended line told lost) (lost_taken lives settings (Acts first) ended line told lost) part;
 }
 
 pub lives_end : (lives : Lives) (settings : Settings) (state : State) (trail : Trail) (told new after : Told) (past past' : Option Past) (taken taken' answers : Option Text) (script : Trace)

@@ -1,6 +1,6 @@
 -- One way of a live run and then another: what is so of where the second ends is so of the whole. And the ways that end where no answer is
 -- heard.
-use Rattle.std.proofs.Common.{ℕ, ◌≡◌, Bool, false, Option, ap, inl, inr, subst, sym}
+use Rattle.std.proofs.Common.{ℕ, ◌≡◌, Option, ap, inl, inr, subst, sym}
 use Rattle.std.specs.Prelude.{IsErr, IsErrAnd, Result, Ok, Err}
 use Rattle.live_io.specs.Turns.{Past}
 use Rattle.live_io.specs.declared.peer.Heard.TheVariants.{LongLine, Over}

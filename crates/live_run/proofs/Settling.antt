@@ -1,5 +1,5 @@
 -- Live steps one after another, until none is next; and so behind an event.
-use Rattle.std.proofs.Common.{ℕ, ◌≡◌, Bool, true, false, List, [], ◌∷◌, ◌++◌, Option, Some, None, refl, sym, ap, ◌∙◌, subst, inl, inr}
+use Rattle.std.proofs.Common.{ℕ, ◌≡◌, Bool, true, false, [], ◌∷◌, ◌++◌, Option, sym, ap, ◌∙◌, subst}
 use Rattle.std.specs.Prelude.{Result, Ok, Err}
 use Rattle.live_io.specs.Turns.{Past}
 use Rattle.pnp_labels.specs.Texts.{Text, label_line}
@@ -10,7 +10,7 @@ use Rattle.pnp_model.specs.Machine.{IsQuiet}
 use Rattle.pnp_model.specs.Records.{Settings, State}
 use Rattle.script_reader.specs.Script.{Trace}
 use Rattle.script_reader.specs.declared.line.Line.{Line}
-use Rattle.live_model.specs.Fronts.{HasBegun, IsFront}
+use Rattle.live_model.specs.Fronts.{IsFront}
 use Rattle.live_model.specs.Lives.{Lives}
 use Rattle.live_model.specs.Moves.{HasHappened}
 use Rattle.live_model.specs.Outputs.{Acts, Leads, Place, Stand, Told, says}
@@ -100,12 +100,12 @@ pub event_settled : (r : Result (Unit {0}) Stop) (lives : Lives) (settings : Set
 event_settled (Ok done) lives settings old new event label state trail t past taken has trail_is told_is settled = (
   settled.0,
   λ s line rest.
-    subst (λ (p : Place). Leads lives settings p (Acts (in_scene new (record s { happened = s.happened ++ line ∷ []; script = rest }))))
-    (behind_is lives old event label state trail t line rest s has trail_is told_is)
-    (settled.1 (record s { happened = s.happened ++ line ∷ []; script = rest })),
+      subst (λ (p : Place). Leads lives settings p (Acts (in_scene new (record s { happened = s.happened ++ line ∷ []; script = rest }))))
+      (behind_is lives old event label state trail t line rest s has trail_is told_is)
+      (settled.1 (record s { happened = s.happened ++ line ∷ []; script = rest })),
 )
 event_settled (Err stop) lives settings old new event label state trail t past taken has trail_is told_is settled =
     λ s line rest.
-      subst (λ (p : Place). StopsAt stop lives settings p new.told past taken)
-      (behind_is lives old event label state trail t line rest s has trail_is told_is)
-      (settled (record s { happened = s.happened ++ line ∷ []; script = rest }))
+    subst (λ (p : Place). StopsAt stop lives settings p new.told past taken)
+    (behind_is lives old event label state trail t line rest s has trail_is told_is)
+    (settled (record s { happened = s.happened ++ line ∷ []; script = rest }))

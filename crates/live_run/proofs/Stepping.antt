@@ -1,6 +1,6 @@
 -- How a step of a live run goes, from its ask on.
-use Rattle.std.proofs.Common.{ℕ, ◌≡◌, ◌+◌, Bool, true, false, List, [], ◌∷◌, ◌++◌, Option, Some, None, refl, sym, ap, ◌∙◌, subst}
-use Rattle.std.specs.Prelude.{Result, Ok, Err, is_some}
+use Rattle.std.proofs.Common.{◌≡◌, ◌+◌, Bool, true, false, List, [], ◌∷◌, ◌++◌, Option, Some, None, refl, sym, ap, ◌∙◌, subst}
+use Rattle.std.specs.Prelude.{Ok, Err, is_some}
 use Rattle.live_io.specs.Turns.{Past}
 use Rattle.pnp_labels.specs.Texts.{Text, label_line}
 use Rattle.pnp_labels.specs.declared.label.Label.{Label}

@@ -1,9 +1,9 @@
 -- What is still to be said counts as said: how a turn of the talk, and what it says, come out so.
-use Rattle.std.proofs.Common.{ℕ, ◌≡◌, ◌+◌, Bool, true, false, List, [], ◌∷◌, ◌++◌, Option, Some, None, take, drop, refl, sym, ap, ◌∙◌, subst, append_assoc, inl, inr}
+use Rattle.std.proofs.Common.{ℕ, ◌≡◌, ◌+◌, Bool, [], ◌++◌, Option, Some, None, take, drop, refl, sym, ap, ◌∙◌, subst, append_assoc, inl, inr}
 use Rattle.std.specs.Prelude.{IsErr, IsErrAnd, OnErr, Result, Ok, Err, is_some, option_map}
 use Rattle.std.proofs.lemmas.List.{append-nil, take-append-drop}
 use Rattle.pnp_io.specs.Outside.{Appends, AppendsFront}
-use Rattle.live_io.specs.Turns.{Hears, HasSaid, HasSaidFront, HasTurned, Past, heard_line, with_said, with_turn}
+use Rattle.live_io.specs.Turns.{Hears, HasSaid, HasSaidFront, HasTurned, Past, with_said, with_turn}
 use Rattle.live_io.specs.declared.peer.Heard.{Heard}
 use Rattle.live_io.specs.declared.peer.Heard.TheVariants.{Line, LongLine, Over}
 use Rattle.pnp_labels.specs.Texts.{Text}

@@ -17,7 +17,7 @@ use Rattle.live_model.specs.Fronts.{HasBegun}
 use Rattle.live_model.specs.Lives.{Lives, LiveSteps}
 use Rattle.live_model.specs.Outputs as outputs
 use Rattle.live_model.specs.Outputs.{Acts, IsOver, Leads, Place, Probes, Rests, Stand, Told, bad_line, behind_line, end_line, happening, labelled, saying}
-use Rattle.live_model.specs.Trails.{Trail, drivers_of}
+use Rattle.live_model.specs.Trails.{Trail}
 use Rattle.live_run.specs.Talks.{IsSaid}
 use Rattle.live_run.specs.declared.driving.Happening.{Happening}
 use Rattle.live_run.specs.declared.stop.Ended.{Ended}

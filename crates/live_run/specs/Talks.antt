@@ -1,5 +1,5 @@
 -- What was said to the other side and heard from it, with what is still to be said, as one; and what a turn of the talk does.
-use Rattle.std.specs.Prelude.{◌≡◌, ◌++◌, ◌⊎◌, ℕ, Bool, false, List, Option, Some, None, Result, Ok, Err, is_some, option_map}
+use Rattle.std.specs.Prelude.{◌≡◌, ◌++◌, ◌⊎◌, ℕ, Bool, false, Option, Some, None, Result, Ok, Err, is_some, option_map}
 use Rattle.std.specs.Str.{bytes_eq}
 use Rattle.live_io.specs.Turns.{Hears, Past, with_said}
 use Rattle.live_io.specs.declared.peer.Heard.{Heard}

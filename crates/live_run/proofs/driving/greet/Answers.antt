@@ -1,4 +1,4 @@
-use Rattle.std.proofs.Common.{List, subst}
+use Rattle.std.proofs.Common.{subst}
 use Rattle.std.specs.Prelude.{Err}
 use Rattle.live_model.specs.Outputs.{untalked}
 use Rattle.live_run.specs.Talks.{HasGreeted, told}

@@ -1,4 +1,4 @@
-use Rattle.std.proofs.Common.{arith, ◌≡◌, ◌∷◌, ◌+◌, ap, drop, map, refl, subst, ◌∙◌}
+use Rattle.std.proofs.Common.{arith, ◌+◌, ap, drop, map, refl, subst, ◌∙◌}
 use Rattle.pnp_labels.specs.Texts.{Text}
 use Rattle.live_model.specs.Notes.{probe_words}
 use Rattle.live_model.specs.Outputs.{asked}

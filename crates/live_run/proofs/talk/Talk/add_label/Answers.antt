@@ -1,4 +1,4 @@
-use Rattle.std.proofs.Common.{List, [], ◌∷◌, ◌++◌, subst, ◌∙◌}
+use Rattle.std.proofs.Common.{[], ◌∷◌, ◌++◌, subst, ◌∙◌}
 use Rattle.pnp_labels.specs.Texts.{Text, label_line}
 use Rattle.live_model.specs.Fronts.{IsFront}
 use Rattle.live_model.specs.Outputs.{Told}

@@ -1,4 +1,4 @@
-use Rattle.std.proofs.Common.{Bool, true, false, subst}
+use Rattle.std.proofs.Common.{Bool, true, subst}
 use Rattle.live_model.specs.Answers.{reply_in}
 use Rattle.live_model.specs.Outputs.{asked}
 use Rattle.live_run.specs.Probes.{TakesProbed}

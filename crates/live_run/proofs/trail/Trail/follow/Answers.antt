@@ -1,4 +1,4 @@
-use Rattle.std.proofs.Common.{List, ap, arith, map, not, subst, sym, ◌≡◌, ◌∙◌}
+use Rattle.std.proofs.Common.{List, ap, arith, map, not, sym, ◌≡◌, ◌∙◌}
 use Rattle.pnp_labels.specs.declared.deed.Deed.{Deed}
 use Rattle.pnp_labels.specs.declared.label.Label.{Label}
 use Rattle.pnp_labels.specs.declared.states.DevState.{DevState}
