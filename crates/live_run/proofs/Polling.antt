@@ -25,21 +25,6 @@ use Rattle.live_run.proofs.Talking.{asks_stay, still_told, told_noted}
 
 -- What the words of an answer to a poll tell ------------------------------------------------------
 
-abbrev told_so : Text → Minor → Bool → List Text → Completion
-told_so path minor ok tags = record { path = path; minor = minor; ok = ok; tags = tags }
-
-completion_is : (a b c : Bool) (m : Option Minor) (k : Option Bool) (path : Text) (tags : List Text) (minor : Minor) (ok : Bool) → a ≡ true → b ≡ true → c ≡ true → m ≡ Some minor → k ≡ Some ok
-    → (if a && b && c then completion_by path tags m k else None) ≡ Some (completes (told_so path minor ok tags))
-completion_is a b c m k path tags minor ok ea eb ec em ek = rw (ea, eb, ec, em, ek) refl
-
-none_waits : (c : Bool) (path : Text) (tags : List Text) (minor : Minor) (ok : Bool) (t : Trail) → (c ≡ true → request_at path minor t ≡ None) → is_polled t (if c then Some (completes (told_so path minor ok tags)) else None) ≡ false
-none_waits true path tags minor ok t none = ap is_some (none refl)
-none_waits false path tags minor ok t none = refl
-
-no_completion : (a b c : Bool) (m : Option Minor) (k : Option Bool) (path : Text) (tags : List Text) (minor : Minor) (ok : Bool) (t : Trail) → a ≡ true → b ≡ true → m ≡ Some minor → k ≡ Some ok
-    → (c ≡ true → request_at path minor t ≡ None) → is_polled t (if a && b && c then completion_by path tags m k else None) ≡ false
-no_completion a b c m k path tags minor ok t ea eb em ek none = rw (ea, eb, em, ek) (none_waits c path tags minor ok t none)
-
 no_ending : (b : Bool) (m : Option Minor) (path : Text) (tags : List Text) (t : Trail) → is_polled t (if b then completion_by path tags m None else None) ≡ false
 no_ending true None path tags t = refl
 no_ending true (Some minor) path tags t = refl
@@ -50,24 +35,6 @@ pub not_ended : (t : Trail) (word path request how : Text) (tags : List Text) �
 not_ended t word path request how tags none =
     let told = bytes_eq word (codes "complete") && are_tags tags && is_path path in
     subst (λ (k : Option Bool). is_polled t (if told then completion_by path tags (minor_of request) k else None) ≡ false) (sym none) (no_ending told (minor_of request) path tags t)
-
-takes_completion : (polled : Polled) (ask : ℕ) (t : Trail) (word path request how : Text) (tags : List Text) (minor : Minor) (ok : Bool) (old new : Text)
-    → bytes_eq word (codes "complete") ≡ true → are_tags tags ≡ true → minor_of request ≡ Some minor → ok_of how ≡ Some ok
-    → HasCompleted polled ask t path minor ok tags old new → TakesPolled polled (polled_words (Some (word ∷ path ∷ request ∷ how ∷ tags))) ask t old new
-takes_completion (Polled.Completes event) ask t word path request how tags minor ok old new named tagged minor_is ok_is h = (
-  told_so path minor ok tags,
-  completion_is (bytes_eq word (codes "complete")) (are_tags tags) (is_path path) (minor_of request) (ok_of how) path tags minor ok named tagged h.0 minor_is ok_is,
-  h.1,
-)
-takes_completion Polled.Bad ask t word path request how tags minor ok old new named tagged minor_is ok_is h =
-    (no_completion (bytes_eq word (codes "complete")) (are_tags tags) (is_path path) (minor_of request) (ok_of how) path tags minor ok t named tagged minor_is ok_is h.0, h.1)
-takes_completion Polled.Nothing ask t word path request how tags minor ok old new named tagged minor_is ok_is h = absurd h
-
-pub takes_completed : {E : Type 0} (r : Result Polled E) (ask : ℕ) (t : Trail) (word path request how : Text) (tags : List Text) (minor : Minor) (ok : Bool) (old new : Text)
-    → bytes_eq word (codes "complete") ≡ true → are_tags tags ≡ true → minor_of request ≡ Some minor → ok_of how ≡ Some ok
-    → IfOk r (λ polled. HasCompleted polled ask t path minor ok tags old new) → IfOk r (λ polled. TakesPolled polled (polled_words (Some (word ∷ path ∷ request ∷ how ∷ tags))) ask t old new)
-takes_completed (Ok polled) ask t word path request how tags minor ok old new named tagged minor_is ok_is h = takes_completion polled ask t word path request how tags minor ok old new named tagged minor_is ok_is h
-takes_completed (Err e) ask t word path request how tags minor ok old new named tagged minor_is ok_is h = tt
 
 -- neither one word nor four: no answer
 pub few_words : {A : Type 0} (f : A → Text) (word : Text) (more : List A) (t : Trail) → 0 < length more → length more < 3 → is_polled t (polled_words (Some (word ∷ map f more))) ≡ false

@@ -36,14 +36,6 @@ pub one_more : (b : Bool) (lives : Lives) (settings : Settings) (first old new :
 one_more true lives settings first old new past taken is steps has = λ s. leads_on lives settings (Acts (in_scene first s)) (Acts (in_scene old s)) (Acts (in_scene new s)) (steps s) (has.1 s)
 one_more false lives settings first old new past taken is steps has = absurd (cc)
 
-pub none_more : (b : Bool) (lives : Lives) (settings : Settings) (first old new : Scene) (past : Option Past) (taken : Option Text)
-    → b ≡ false → Steps lives settings first old → HasStepped (Ok b) lives settings old new past taken → HasSettled (Ok tt) lives settings first new past taken
-none_more true lives settings first old new past taken is steps has = absurd (cc)
-none_more false lives settings first old new past taken is steps has = (
-  subst (λ (x : Scene). IsQuiet settings x.state) (sym has.1) has.0,
-  subst (λ (x : Scene). Steps lives settings first x) (sym has.1) steps,
-)
-
 pub steps_stop : (stop : Stop) (lives : Lives) (settings : Settings) (first old new : Scene) (past : Option Past) (taken : Option Text)
     → Steps lives settings first old → HasStepped (Err stop) lives settings old new past taken → HasSettled (Err stop) lives settings first new past taken
 steps_stop stop lives settings first old new past taken steps has =

@@ -147,10 +147,6 @@ stepped lives settings label old new trail trail' t t' t2 t3 past past' taken ta
       (subst (λ (r : Trail). Leads lives settings (behind_line lives label (at new r t2 s)) (Acts (at new trail' t3 s))) trail_is (looked (record s { state = new })))),
 )
 
-pub no_step : (lives : Lives) (settings : Settings) (old new : State) (trail : Trail) (t t' : Told) (past : Option Past) (taken : Option Text)
-    → NextIs (Ok None) lives settings old new t t' past taken → HasStepped (Ok false) lives settings (scene old trail t) (scene new trail t') past taken
-no_step lives settings old new trail t t' past taken next = (next.0, ap (λ (state : State). scene state trail t') next.1 ∙ ap (λ (u : Told). scene old trail u) next.2)
-
 -- the step is not made
 pub not_stepped : (stop : Stop) (lives : Lives) (settings : Settings) (old new : State) (trail : Trail) (t t' : Told) (past : Option Past) (taken : Option Text)
     → NextIs (Err stop) lives settings old new t t' past taken → HasStepped (Err stop) lives settings (scene old trail t) (scene new trail t') past taken

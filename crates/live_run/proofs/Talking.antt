@@ -62,22 +62,7 @@ unsaid asks said past taken answers = IsFront.front said said refl refl
 pub unsaid_more : (more : Text) (asks : ℕ) (said : Text) (past : Option Past) (taken answers : Option Text) → IsFront (says more (told_by asks said past taken answers)) past taken
 unsaid_more more asks said past taken answers = subst (λ (t : Told). IsFront t past taken) (sym (says_is more asks said past taken answers)) (unsaid asks (said ++ more) past taken answers)
 
--- a front of what is said before more is one of all
-pub front_more : (more : Text) (t : Told) (past : Option Past) (taken : Option Text) → IsSaid t past taken → IsFront (says more t) past taken
-front_more more t past taken said = IsFront.front more more (ap (option_map (with_said more)) said.heard) (ap (option_map (with_more more)) said.said)
-
 -- All of it was said -----------------------------------------------------------------------------
-
-pub is_said : (asks : ℕ) (said : Text) (past past' : Option Past) (taken taken' answers : Option Text) → HasSaid past past' said → Appends taken taken' said → IsSaid (told_by asks said past taken answers) past' taken'
-is_said asks said past past' taken taken' answers has has' = record { heard = sym has; said = sym has' }
-
-pub same_told : (asks : ℕ) (said said' : Text) (past past' : Option Past) (taken taken' answers answers' : Option Text) → said' ≡ [] → HasSaid past past' said → Appends taken taken' said → answers' ≡ answers
-    → told_by asks said' past' taken' answers' ≡ told_by asks said past taken answers
-same_told asks said said' past past' taken taken' answers answers' none has has' same =
-    ap (λ (s : Text). told_by asks s past' taken' answers') none
-    ∙ ap (λ (p : Option Past). talk_of asks p (option_map (with_more []) taken') answers') (past_nothing past' ∙ has)
-    ∙ ap (λ (t : Option Text). talk_of asks (option_map (with_said said) past) t answers') (taken_nothing taken' ∙ has')
-    ∙ ap (talk_of asks (option_map (with_said said) past) (option_map (with_more said) taken)) same
 
 -- A turn -----------------------------------------------------------------------------------------
 
@@ -104,16 +89,6 @@ turned_line asks said said' line past past' taken taken' answers answers' none t
   talk = told_turned asks said said' (Some line) past past' taken taken' answers answers' none turns has;
   front = IsFront.heard (Some line) (turns ∙ turn_is said (Some line) past) has;
 }
-
-pub turned_long : (asks : ℕ) (said said' line : Text) (past past' : Option Past) (taken taken' answers answers' : Option Text) → said' ≡ [] → HasTurned past past' said LongLine line → Appends taken taken' said → Hears answers LongLine line answers'
-    → HearsNone LongLine (told_by asks said past taken answers) (told_by asks said' past' taken' answers')
-turned_long asks said said' line past past' taken taken' answers answers' none turns has comes =
-    record { line = line; comes = comes; talk = told_turned asks said said' None past past' taken taken' answers answers' none turns has }
-
-pub turned_over : (asks : ℕ) (said said' line : Text) (past past' : Option Past) (taken taken' answers answers' : Option Text) → said' ≡ [] → HasTurned past past' said Over line → Appends taken taken' said → Hears answers Over line answers'
-    → HearsNone Over (told_by asks said past taken answers) (told_by asks said' past' taken' answers')
-turned_over asks said said' line past past' taken taken' answers answers' none turns has comes =
-    record { line = line; comes = comes; talk = told_turned asks said said' None past past' taken taken' answers answers' none turns has }
 
 -- the same, where the text that was said and what was heard have other names
 pub hears_line : (heard : Heard) (asks : ℕ) (said said' spoken line : Text) (past past' : Option Past) (taken taken' answers answers' : Option Text) → heard ≡ Line → spoken ≡ said → said' ≡ [] → HasTurned past past' spoken heard line → Appends taken taken' spoken → Hears answers heard line answers'
