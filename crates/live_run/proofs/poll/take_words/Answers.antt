@@ -3,8 +3,8 @@ use Rattle.live_run.specs.Views.{trail_of}
 use Rattle.live_run.proofs.Polling.{few_words, none_completes, other_word}
 use Rattle.live_run.proofs.poll.take_words.Goals as goal
 
-pub returns-then-len-gt0 : goal.returns-then-len-gt0
-returns-then-len-gt0 c =
+pub returns-then-more-gt0 : goal.returns-then-more-gt0
+returns-then-more-gt0 c =
     let some : 0 < length c.args.more.now = omega arith in
     let few : length c.args.more.now < 3 = omega arith in
     (few_words (λ t. t.now) c.args.word.now c.args.more.now (trail_of c.args.trail.now) some few, refl)
