@@ -56,7 +56,7 @@ returns-in-Some-clause-next g c = λ lives.
   let polled = subst (λ (o : Option Event). HasPolled (Ok o) trail (asked poll_words t) t' past' taken') c.in-Some.is c.in_ok-event.ensures.polled in
   one_completes lives settings here c.in-Some.event t' script past' taken' c.requires.quiet waits polled.0
 
-pub returns-in-None-clause-next : goal.returns-clause-next
+pub returns-in-None-clause-next : goal.returns-in-None-clause-next
 returns-in-None-clause-next g c = λ lives.
   let t = told c.args.talk.now (g.P.Peer.past c.args.peer.now) (g.P.Peer.taken c.args.peer.now) (g.P.Peer.answers c.args.peer.now) in
   let settings = g.M.Machine.settings c.args.machine.now in
