@@ -195,7 +195,7 @@ lost_front lives settings first ended line told past taken lost part = record {
   there = IsOver ended (saying (line lost.last.told.asks) lost.last);
   leads = lost.leads;
   front = front_same (says (line told.asks) told) (says (line lost.last.told.asks) lost.last.told) past taken
-    (lost_heard lives settings (Acts first) ended line told lost) (lost_taken lives settings (Acts first) ended line told lost) part;
+      (lost_heard lives settings (Acts first) ended line told lost) (lost_taken lives settings (Acts first) ended line told lost) part;
 }
 
 pub lives_end : (lives : Lives) (settings : Settings) (state : State) (trail : Trail) (told new after : Told) (past past' : Option Past) (taken taken' answers : Option Text) (script : Trace)

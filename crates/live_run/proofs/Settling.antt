@@ -100,12 +100,12 @@ pub event_settled : (r : Result (Unit {0}) Stop) (lives : Lives) (settings : Set
 event_settled (Ok done) lives settings old new event label state trail t past taken has trail_is told_is settled = (
   settled.0,
   λ s line rest.
-    subst (λ (p : Place). Leads lives settings p (Acts (in_scene new (record s { happened = s.happened ++ line ∷ []; script = rest }))))
-    (behind_is lives old event label state trail t line rest s has trail_is told_is)
-    (settled.1 (record s { happened = s.happened ++ line ∷ []; script = rest })),
+      subst (λ (p : Place). Leads lives settings p (Acts (in_scene new (record s { happened = s.happened ++ line ∷ []; script = rest }))))
+      (behind_is lives old event label state trail t line rest s has trail_is told_is)
+      (settled.1 (record s { happened = s.happened ++ line ∷ []; script = rest })),
 )
 event_settled (Err stop) lives settings old new event label state trail t past taken has trail_is told_is settled =
     λ s line rest.
-      subst (λ (p : Place). StopsAt stop lives settings p new.told past taken)
-      (behind_is lives old event label state trail t line rest s has trail_is told_is)
-      (settled (record s { happened = s.happened ++ line ∷ []; script = rest }))
+    subst (λ (p : Place). StopsAt stop lives settings p new.told past taken)
+    (behind_is lives old event label state trail t line rest s has trail_is told_is)
+    (settled (record s { happened = s.happened ++ line ∷ []; script = rest }))

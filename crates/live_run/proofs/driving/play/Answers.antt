@@ -29,11 +29,11 @@ returns-in_err-settle-clause-played g c =
 pub events-init : goal.events-init
 events-init g c = record {
   plays =
-    let past' = g.P.Peer.past c.settle.new.peer in
-    let taken' = g.P.Peer.taken c.settle.new.peer in
-    let now = scene (g.M.Machine.state c.settle.new.machine) (trail_of c.settle.new.trail) (told c.settle.new.talk past' taken' (g.P.Peer.answers c.settle.new.peer)) in
-    plays_first (lives_of c.args.live.now) (g.M.Machine.settings c.args.machine.now) (scene (g.M.Machine.state c.args.machine.now) (trail_of c.args.trail.now) (told c.args.talk.now (g.P.Peer.past c.args.peer.now) (g.P.Peer.taken c.args.peer.now) (g.P.Peer.answers c.args.peer.now))) now
-    (script_of c.args.reader.now) past' taken' c.in_ok-settle.ensures.settled;
+      let past' = g.P.Peer.past c.settle.new.peer in
+      let taken' = g.P.Peer.taken c.settle.new.peer in
+      let now = scene (g.M.Machine.state c.settle.new.machine) (trail_of c.settle.new.trail) (told c.settle.new.talk past' taken' (g.P.Peer.answers c.settle.new.peer)) in
+      plays_first (lives_of c.args.live.now) (g.M.Machine.settings c.args.machine.now) (scene (g.M.Machine.state c.args.machine.now) (trail_of c.args.trail.now) (told c.args.talk.now (g.P.Peer.past c.args.peer.now) (g.P.Peer.taken c.args.peer.now) (g.P.Peer.answers c.args.peer.now))) now
+      (script_of c.args.reader.now) past' taken' c.in_ok-settle.ensures.settled;
   quiet = subst (λ (s : Settings). IsQuiet s (g.M.Machine.state c.settle.new.machine)) (sym c.in_ok-settle.ensures.same) c.in_ok-settle.ensures.settled.0;
   same = c.in_ok-settle.ensures.same;
   finished = c.requires.finished;
@@ -72,7 +72,7 @@ returns-in_err-happen-in-Event-clause-played g c =
     let taken' = g.P.Peer.taken c.next_happening.new.peer in
     let t = told c.next_happening.new.talk past' taken' (g.P.Peer.answers c.next_happening.new.peer) in
     let next = subst (λ (h : Happening). IsNext (Ok h) lives settings Acts old t rest more past' taken') c.in-Event.is
-      (subst (λ (s : Settings). IsNext (Ok c.in_ok-event.field-0) lives s Acts old t rest more past' taken') c.events.invariant.same (c.in_ok-event.ensures.next lives)) in
+    (subst (λ (s : Settings). IsNext (Ok c.in_ok-event.field-0) lives s Acts old t rest more past' taken') c.events.invariant.same (c.in_ok-event.ensures.next lives)) in
     let past'' = g.P.Peer.past c.happen.new.peer in
     let taken'' = g.P.Peer.taken c.happen.new.peer in
     let new = scene (g.M.Machine.state c.happen.new.machine) (trail_of c.happen.new.trail) (told c.happen.new.talk past'' taken'' (g.P.Peer.answers c.happen.new.peer)) in
@@ -95,30 +95,30 @@ returns-in-End-clause-played g c =
     let taken' = g.P.Peer.taken c.next_happening.new.peer in
     let t = told c.next_happening.new.talk past' taken' (g.P.Peer.answers c.next_happening.new.peer) in
     let next = subst (λ (h : Happening). IsNext (Ok h) lives settings Acts old t rest more past' taken') c.in-End.is
-      (subst (λ (s : Settings). IsNext (Ok c.in_ok-event.field-0) lives s Acts old t rest more past' taken') c.events.invariant.same (c.in_ok-event.ensures.next lives)) in
+    (subst (λ (s : Settings). IsNext (Ok c.in_ok-event.field-0) lives s Acts old t rest more past' taken') c.events.invariant.same (c.in_ok-event.ensures.next lives)) in
     plays_out c.in-End.ended lives settings first old t script rest more past' taken' c.events.invariant.plays next
 
 pub events-preserved : goal.events-preserved
 events-preserved g c = record {
   plays =
-    let lives = lives_of c.args.live.now in
-    let settings = g.M.Machine.settings c.args.machine.now in
-    let first = scene (g.M.Machine.state c.args.machine.now) (trail_of c.args.trail.now) (told c.args.talk.now (g.P.Peer.past c.args.peer.now) (g.P.Peer.taken c.args.peer.now) (g.P.Peer.answers c.args.peer.now)) in
-    let script = script_of c.args.reader.now in
-    let old = scene (g.M.Machine.state c.events.machine) (trail_of c.events.trail) (told c.events.talk (g.P.Peer.past c.events.peer) (g.P.Peer.taken c.events.peer) (g.P.Peer.answers c.events.peer)) in
-    let rest = script_of c.events.reader in
-    let more = script_of c.next_happening.new.reader in
-    let past' = g.P.Peer.past c.next_happening.new.peer in
-    let taken' = g.P.Peer.taken c.next_happening.new.peer in
-    let t = told c.next_happening.new.talk past' taken' (g.P.Peer.answers c.next_happening.new.peer) in
-    let next = subst (λ (h : Happening). IsNext (Ok h) lives settings Acts old t rest more past' taken') c.in-Event.is
+      let lives = lives_of c.args.live.now in
+      let settings = g.M.Machine.settings c.args.machine.now in
+      let first = scene (g.M.Machine.state c.args.machine.now) (trail_of c.args.trail.now) (told c.args.talk.now (g.P.Peer.past c.args.peer.now) (g.P.Peer.taken c.args.peer.now) (g.P.Peer.answers c.args.peer.now)) in
+      let script = script_of c.args.reader.now in
+      let old = scene (g.M.Machine.state c.events.machine) (trail_of c.events.trail) (told c.events.talk (g.P.Peer.past c.events.peer) (g.P.Peer.taken c.events.peer) (g.P.Peer.answers c.events.peer)) in
+      let rest = script_of c.events.reader in
+      let more = script_of c.next_happening.new.reader in
+      let past' = g.P.Peer.past c.next_happening.new.peer in
+      let taken' = g.P.Peer.taken c.next_happening.new.peer in
+      let t = told c.next_happening.new.talk past' taken' (g.P.Peer.answers c.next_happening.new.peer) in
+      let next = subst (λ (h : Happening). IsNext (Ok h) lives settings Acts old t rest more past' taken') c.in-Event.is
       (subst (λ (s : Settings). IsNext (Ok c.in_ok-event.field-0) lives s Acts old t rest more past' taken') c.events.invariant.same (c.in_ok-event.ensures.next lives)) in
-    let past'' = g.P.Peer.past c.happen.new.peer in
-    let taken'' = g.P.Peer.taken c.happen.new.peer in
-    let new = scene (g.M.Machine.state c.happen.new.machine) (trail_of c.happen.new.trail) (told c.happen.new.talk past'' taken'' (g.P.Peer.answers c.happen.new.peer)) in
-    let middle = scene (g.M.Machine.state c.events.machine) (trail_of c.events.trail) t in
-    plays_on lives settings first old new c.in-Event.event t script rest more past' past'' taken' taken'' c.events.invariant.plays next
-    (subst (λ (s : Settings). HasFollowed (Ok c.in_ok-happen-in-Event.field-0) lives s middle c.in-Event.event new past'' taken'') c.events.invariant.same c.in_ok-happen-in-Event.ensures.followed);
+      let past'' = g.P.Peer.past c.happen.new.peer in
+      let taken'' = g.P.Peer.taken c.happen.new.peer in
+      let new = scene (g.M.Machine.state c.happen.new.machine) (trail_of c.happen.new.trail) (told c.happen.new.talk past'' taken'' (g.P.Peer.answers c.happen.new.peer)) in
+      let middle = scene (g.M.Machine.state c.events.machine) (trail_of c.events.trail) t in
+      plays_on lives settings first old new c.in-Event.event t script rest more past' past'' taken' taken'' c.events.invariant.plays next
+      (subst (λ (s : Settings). HasFollowed (Ok c.in_ok-happen-in-Event.field-0) lives s middle c.in-Event.event new past'' taken'') c.events.invariant.same c.in_ok-happen-in-Event.ensures.followed);
   quiet = subst (λ (s : Settings). IsQuiet s (g.M.Machine.state c.happen.new.machine)) (sym c.in_ok-happen-in-Event.ensures.same) c.in_ok-happen-in-Event.ensures.followed.0;
   same = c.in_ok-happen-in-Event.ensures.same ∙ c.events.invariant.same;
   finished = c.in_ok-event.ensures.finished;
@@ -157,7 +157,7 @@ returns-in-Event-2-clause-played g c =
     let taken' = g.P.Peer.taken c.next_happening-2.new.peer in
     let t = told c.next_happening-2.new.talk past' taken' (g.P.Peer.answers c.next_happening-2.new.peer) in
     let next = subst (λ (h : Happening). IsNext (Ok h) lives settings Acts old t rest more past' taken') c.in-Event-2.is
-      (subst (λ (s : Settings). IsNext (Ok c.in_ok-event-2.field-0) lives s Acts old t rest more past' taken') c.events.invariant.same (c.in_ok-event-2.ensures.next lives)) in
+    (subst (λ (s : Settings). IsNext (Ok c.in_ok-event-2.field-0) lives s Acts old t rest more past' taken') c.events.invariant.same (c.in_ok-event-2.ensures.next lives)) in
     one_too_many DriveError.TooLarge lives settings first old c.in-Event-2.event script rest more c.next_happening-2.new.talk.asks c.next_happening-2.new.talk.said.items past' taken'
     (g.P.Peer.answers c.next_happening-2.new.peer) c.events.invariant.plays next
 
@@ -174,5 +174,5 @@ returns-in-End-2-clause-played g c =
     let taken' = g.P.Peer.taken c.next_happening-2.new.peer in
     let t = told c.next_happening-2.new.talk past' taken' (g.P.Peer.answers c.next_happening-2.new.peer) in
     let next = subst (λ (h : Happening). IsNext (Ok h) lives settings Acts old t rest more past' taken') c.in-End-2.is
-      (subst (λ (s : Settings). IsNext (Ok c.in_ok-event-2.field-0) lives s Acts old t rest more past' taken') c.events.invariant.same (c.in_ok-event-2.ensures.next lives)) in
+    (subst (λ (s : Settings). IsNext (Ok c.in_ok-event-2.field-0) lives s Acts old t rest more past' taken') c.events.invariant.same (c.in_ok-event-2.ensures.next lives)) in
     plays_out c.in-End-2.ended lives settings first old t script rest more past' taken' c.events.invariant.plays next

@@ -12,7 +12,7 @@ use Rattle.live_run.proofs.driving.settle.Goals as goal
 pub steps-init : goal.steps-init
 steps-init g c = record {
   steps = no_steps (lives_of c.args.live.now) (g.M.Machine.settings c.args.machine.now)
-    (scene (g.M.Machine.state c.args.machine.now) (trail_of c.args.trail.now) (told c.args.talk.now (g.P.Peer.past c.args.peer.now) (g.P.Peer.taken c.args.peer.now) (g.P.Peer.answers c.args.peer.now)));
+      (scene (g.M.Machine.state c.args.machine.now) (trail_of c.args.trail.now) (told c.args.talk.now (g.P.Peer.past c.args.peer.now) (g.P.Peer.taken c.args.peer.now) (g.P.Peer.answers c.args.peer.now)));
   same = refl;
   events = refl;
   writes = omega arith;
@@ -36,16 +36,16 @@ returns-in_err-take_step-clause-settled g c =
 pub steps-preserved : goal.steps-preserved
 steps-preserved g c = record {
   steps =
-    let lives = lives_of c.args.live.now in
-    let settings = g.M.Machine.settings c.args.machine.now in
-    let first = scene (g.M.Machine.state c.args.machine.now) (trail_of c.args.trail.now) (told c.args.talk.now (g.P.Peer.past c.args.peer.now) (g.P.Peer.taken c.args.peer.now) (g.P.Peer.answers c.args.peer.now)) in
-    let old = scene (g.M.Machine.state c.steps.machine) (trail_of c.steps.trail) (told c.steps.talk (g.P.Peer.past c.steps.peer) (g.P.Peer.taken c.steps.peer) (g.P.Peer.answers c.steps.peer)) in
-    let past' = g.P.Peer.past c.take_step.new.peer in
-    let taken' = g.P.Peer.taken c.take_step.new.peer in
-    let new = scene (g.M.Machine.state c.take_step.new.machine) (trail_of c.take_step.new.trail) (told c.take_step.new.talk past' taken' (g.P.Peer.answers c.take_step.new.peer)) in
-    let went : c.in_ok-take_step.field-0 ≡ true = first_of (search rules, grind arith) in
-    one_more c.in_ok-take_step.field-0 lives settings first old new past' taken' went c.steps.invariant.steps
-    (subst (λ (s : Settings). HasStepped (Ok c.in_ok-take_step.field-0) lives s old new past' taken') c.steps.invariant.same c.in_ok-take_step.ensures.stepped);
+      let lives = lives_of c.args.live.now in
+      let settings = g.M.Machine.settings c.args.machine.now in
+      let first = scene (g.M.Machine.state c.args.machine.now) (trail_of c.args.trail.now) (told c.args.talk.now (g.P.Peer.past c.args.peer.now) (g.P.Peer.taken c.args.peer.now) (g.P.Peer.answers c.args.peer.now)) in
+      let old = scene (g.M.Machine.state c.steps.machine) (trail_of c.steps.trail) (told c.steps.talk (g.P.Peer.past c.steps.peer) (g.P.Peer.taken c.steps.peer) (g.P.Peer.answers c.steps.peer)) in
+      let past' = g.P.Peer.past c.take_step.new.peer in
+      let taken' = g.P.Peer.taken c.take_step.new.peer in
+      let new = scene (g.M.Machine.state c.take_step.new.machine) (trail_of c.take_step.new.trail) (told c.take_step.new.talk past' taken' (g.P.Peer.answers c.take_step.new.peer)) in
+      let went : c.in_ok-take_step.field-0 ≡ true = first_of (search rules, grind arith) in
+      one_more c.in_ok-take_step.field-0 lives settings first old new past' taken' went c.steps.invariant.steps
+      (subst (λ (s : Settings). HasStepped (Ok c.in_ok-take_step.field-0) lives s old new past' taken') c.steps.invariant.same c.in_ok-take_step.ensures.stepped);
   same = c.in_ok-take_step.ensures.same ∙ c.steps.invariant.same;
   events = c.in_ok-take_step.ensures.events ∙ c.steps.invariant.events;
   writes = omega (arith, c.steps.invariant.writes, c.in_ok-take_step.ensures.writes);
