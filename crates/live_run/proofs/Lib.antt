@@ -1,3 +1,11 @@
 mod Faults
-mod Making
+mod Leading
+mod Talking
+mod Trailing
+mod Polling
+mod Settling
+mod Playing
+mod Ending
 mod Replying
+mod Probing
+mod Stepping

@@ -1,3 +1,6 @@
 pub mod Errors
 pub mod Views
-pub mod Steps
+pub mod Talks
+pub mod Polls
+pub mod Probes
+pub mod Runs

@@ -1,14 +1,15 @@
 //! The lines of the answers.
-ghost use Rattle.std.specs.Prelude.{◌≡◌, IfOk, map, option_map};
+ghost use Rattle.std.specs.Prelude.{◌≡◌, IfOk, MatchOption, map, option_map, true, false};
 ghost use Rattle.std.specs.List.{list_all};
 ghost use Rattle.std.specs.Str.{bytes_eq};
+ghost use Rattle.device_ids.specs.Ids.{is_path};
 ghost use Rattle.script_reader.specs.Words.{is_name};
 ghost use Rattle.live_model.specs.Answers.{are_tags, behind, is_taken, words_in};
 
-use device_ids::{WantOfMemory, cut};
-use pnp_labels::{Answer, Minor, decimal};
-use script_reader::{is_name, minor_of, ok_of};
-use std::alloc::Global;
+use device_ids::{InstancePath, PathError, WantOfMemory, cut};
+use pnp_labels::{Answer, decimal};
+use script_reader::is_name;
+use std::alloc::{AllocError, Global};
 
 /// Whether a word is this one.
 pub(crate) fn is_word(word: &[u8], own: &[u8]) -> bool
@@ -68,58 +69,13 @@ pub(crate) fn is_taken(may_pend: bool, answer: Answer) -> bool
     }
 }
 
-/// What the other side says when it is asked whether a request completes.
-#[derive(Drop)]
-pub(crate) enum Polled<'a> {
-    /// None does.
-    None,
-    /// This one does.
-    Complete(Completion<'a>),
-}
-
-/// A request that completes, and the tags behind it.
-#[derive(Drop)]
-pub(crate) struct Completion<'a> {
-    pub(crate) path: &'a [u8],
-    pub(crate) minor: Minor,
-    pub(crate) ok: bool,
-    pub(crate) tags: Vec<&'a [u8]>,
-}
-
-/// The completion that these words and tags say, if they say one.
-fn completion_of<'a>(
-    alloc: Global,
-    path: &'a [u8],
-    minor: &[u8],
-    ok: &[u8],
-    tags: &[&'a [u8]],
-) -> Result<Option<Polled<'a>>, WantOfMemory> {
-    let (Some(minor), Some(ok)) = (minor_of(minor), ok_of(ok)) else {
-        return Ok(None);
-    };
-    let tags = Vec::from_slice(alloc, tags)?;
-    Ok(Some(Polled::Complete(Completion {
-        path,
-        minor,
-        ok,
-        tags,
-    })))
-}
-
-/// What a line answers to a poll of this number; none where it is no answer to it.
-pub(crate) fn polled_of(
-    alloc: Global,
-    line: &[u8],
-    number: u64,
-) -> Result<Option<Polled<'_>>, WantOfMemory> {
-    let Some(words) = words_of(alloc, line, number)? else {
-        return Ok(None);
-    };
-    match words.as_slice() {
-        [word] if is_word(word, b"none") => Ok(Some(Polled::None)),
-        [word, path, minor, ok, tags @ ..] if is_word(word, b"complete") && are_tags(tags) => {
-            completion_of(alloc, path, minor, ok, tags)
-        }
-        _ => Ok(None),
+/// The path that a word is, if it is one.
+pub(crate) fn path_of(alloc: Global, word: &[u8]) -> Result<Option<InstancePath>, WantOfMemory>
+    ensures { IfOk result (λ path. MatchOption path (is_path word.now ≡ false) (λ p. (p ≡ word.now) × (is_path word.now ≡ true))) }
+{
+    match InstancePath::read(alloc, word) {
+        Ok(path) => Ok(Some(path)),
+        Err(PathError::WantOfMemory) => Err(AllocError),
+        Err(_) => Ok(None),
     }
 }

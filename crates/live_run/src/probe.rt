@@ -1,8 +1,12 @@
 //! Whether drivers take requests of programs as they may.
-ghost use Rattle.std.specs.Prelude.{◌≡◌, ◌≤◌, IfOk, IsErrOf};
+ghost use Rattle.std.specs.Prelude.{◌≡◌, ◌≤◌, ◌++◌, IfOk, IsErrOf, OnOk, map, true};
 ghost use Rattle.pnp_io.specs.Outside.{Rose};
-ghost use Rattle.live_model.specs.Notes.{answer_text, fits, misfit_tag};
+ghost use Rattle.live_model.specs.Answers.{reply_in};
+ghost use Rattle.live_model.specs.Notes.{answer_text, fits, misfit_tag, probe_lines};
+ghost use Rattle.live_model.specs.Outputs.{asked};
 ghost use Rattle.live_run.specs.declared.stop.DriveError.TheVariants.{ReadFault, WriteFault};
+ghost use Rattle.live_run.specs.Probes.{HasProbed, TakesProbed};
+ghost use Rattle.live_run.specs.Talks.{told};
 
 use crate::answers::{are_tags, words_of};
 use crate::notes::{push_broke, push_tags};
@@ -49,6 +53,26 @@ fn misfit_tag(alloc: Global, state: DevState, answer: Answer) -> Result<Vec<u8>,
     Ok(tag)
 }
 
+/// Appends a note for each rule that is broken by an answer to a probe in this state, and for each tag.
+fn push_probed(
+    alloc: Global,
+    out: &mut Vec<u8>,
+    ask: u64,
+    driver: &[u8],
+    state: DevState,
+    answer: Answer,
+    tags: &[&[u8]],
+) -> Result<(), WantOfMemory>
+    ensures { OnOk result (out.new.items ≡ out.old.items ++ probe_lines ask driver.now state answer (map (λ t. t.now) tags.now)) }
+{
+    if fits(state, answer) {
+        return push_tags(out, ask, driver, tags);
+    }
+    let tag = misfit_tag(alloc, state, answer)?;
+    push_broke(out, ask, driver, &tag)?;
+    push_tags(out, ask, driver, tags)
+}
+
 impl Talk {
     /// Takes the line that was heard as the answer to a probe of a device in this state, if it is one: which rules were broken is to be said.
     fn take_probed(
@@ -56,7 +80,11 @@ impl Talk {
         alloc: Global,
         driver: &Text,
         state: DevState,
-    ) -> Result<bool, WantOfMemory> {
+    ) -> Result<bool, WantOfMemory>
+        ensures takes { IfOk result (λ taken. TakesProbed taken (reply_in self.old.asks true self.old.line.items) self.old.asks driver.now state self.old.said.items self.new.said.items) }
+        ensures line { OnOk result (self.new.line ≡ self.old.line) }
+        ensures asks { OnOk result (self.new.asks ≡ self.old.asks) }
+    {
         let Some(words) = words_of(alloc, &self.line, self.asks)? else {
             return Ok(false);
         };
@@ -65,11 +93,15 @@ impl Talk {
         };
         match answer_of(word) {
             Some(answer) if are_tags(tags) => {
-                if !fits(state, answer) {
-                    let tag = misfit_tag(alloc, state, answer)?;
-                    push_broke(&mut self.said, self.asks, driver.bytes(), &tag)?;
-                }
-                push_tags(&mut self.said, self.asks, driver.bytes(), tags)?;
+                push_probed(
+                    alloc,
+                    &mut self.said,
+                    self.asks,
+                    driver.bytes(),
+                    state,
+                    answer,
+                    tags,
+                )?;
                 Ok(true)
             }
             _ => Ok(false),
@@ -86,6 +118,7 @@ impl Talk {
         state: DevState,
         peer: &mut P,
     ) -> Result<(), Stop>
+        ensures probed { HasProbed result driver.now state (asked words.now (told self.old (P.past peer.old) (P.taken peer.old) (P.answers peer.old))) (told self.new (P.past peer.new) (P.taken peer.new) (P.answers peer.new)) (P.past peer.new) (P.taken peer.new) }
         ensures write_fault { IsErrOf result (Stop.Fault WriteFault) → Rose (P.write_faults peer.old) (P.write_faults peer.new) }
         ensures read_fault { IsErrOf result (Stop.Fault ReadFault) → Rose (P.read_faults peer.old) (P.read_faults peer.new) }
         ensures writes { P.write_faults peer.old ≤ P.write_faults peer.new }

@@ -1,10 +1,13 @@
 //! One step of a live run.
+ghost use Rattle.std.specs.Prelude.{◌≡◌, ◌≤◌, IsErrOf};
 ghost use Rattle.pnp_io.specs.Outside.{Rose};
+ghost use Rattle.pnp_model.specs.Records.{Settings};
+ghost use Rattle.live_model.specs.Lives.{Lives};
+ghost use Rattle.live_model.specs.Trails.{drivers_of};
 ghost use Rattle.live_run.specs.declared.stop.DriveError.TheVariants.{ReadFault, WriteFault};
-ghost use Rattle.std.specs.Prelude.{◌≡◌, ◌≤◌, IfOk, IsErrOf, None, OnOk, false};
-ghost use Rattle.pnp_model.specs.Machine.{IsQuiet};
-ghost use Rattle.live_run.specs.Steps.{IfMade, Makes};
-ghost use Rattle.live_run.specs.Views.{lives_of};
+ghost use Rattle.live_run.specs.Runs.{HasLooked, HasProbedAll, HasStepped, NextIs, scene};
+ghost use Rattle.live_run.specs.Talks.{told};
+ghost use Rattle.live_run.specs.Views.{lives_of, trail_of};
 
 use crate::asks::ask_words;
 use crate::live::LiveDrivers;
@@ -18,7 +21,7 @@ use pnp_labels::{DevState, Label};
 use std::alloc::Global;
 
 /// The label of the next step, in which a live driver answers what is heard and another one by its book; none where no step is next.
-#[tactic(auto, using(crate::proofs::Faults::rose_behind, crate::proofs::Making::made_by_books, crate::proofs::Making::made_by_answer))]
+#[tactic(auto, using(crate::proofs::Faults::rose_behind))]
 fn next_label<M: Machine, P: Peer>(
     alloc: Global,
     machine: &mut M,
@@ -26,8 +29,7 @@ fn next_label<M: Machine, P: Peer>(
     talk: &mut Talk,
     peer: &mut P,
 ) -> Result<Option<Label>, Stop>
-    ensures makes { IfOk result (λ label. Makes label (lives_of live.now) (M.settings machine.old) (M.state machine.old) (M.state machine.new) (P.answers peer.old) (P.answers peer.new)) }
-    ensures quiet { IfOk result (λ label. label ≡ None → IsQuiet (M.settings machine.new) (M.state machine.new)) }
+    ensures next { NextIs result (lives_of live.now) (M.settings machine.old) (M.state machine.old) (M.state machine.new) (told talk.old (P.past peer.old) (P.taken peer.old) (P.answers peer.old)) (told talk.new (P.past peer.new) (P.taken peer.new) (P.answers peer.new)) (P.past peer.new) (P.taken peer.new) }
     ensures same { M.settings machine.new ≡ M.settings machine.old }
     ensures events { M.events machine.new ≡ M.events machine.old }
     ensures write_fault { IsErrOf result (Stop.Fault WriteFault) → Rose (P.write_faults peer.old) (P.write_faults peer.new) }
@@ -44,7 +46,7 @@ fn next_label<M: Machine, P: Peer>(
     }
 }
 
-/// Asks each live driver of a device that has come to a state whether it takes a create request, the lowest first.
+/// Asks each of these live drivers of a device that has come to a state whether it takes a create request, the lowest first.
 #[tactic(auto, using(crate::proofs::Faults::rose_behind))]
 fn probe<P: Peer>(
     alloc: Global,
@@ -54,18 +56,43 @@ fn probe<P: Peer>(
     talk: &mut Talk,
     peer: &mut P,
 ) -> Result<(), Stop>
+    ensures probed { (lives : Lives) (settings : Settings) → HasProbedAll result lives settings path.now state (drivers_of path.now (trail_of trail.now)) (told talk.old (P.past peer.old) (P.taken peer.old) (P.answers peer.old)) (told talk.new (P.past peer.new) (P.taken peer.new) (P.answers peer.new)) (P.past peer.new) (P.taken peer.new) }
     ensures write_fault { IsErrOf result (Stop.Fault WriteFault) → Rose (P.write_faults peer.old) (P.write_faults peer.new) }
     ensures read_fault { IsErrOf result (Stop.Fault ReadFault) → Rose (P.read_faults peer.old) (P.read_faults peer.new) }
     ensures writes { P.write_faults peer.old ≤ P.write_faults peer.new }
     ensures reads { P.read_faults peer.old ≤ P.read_faults peer.new }
 {
-    for at in 0..trail.attached() {
-        if let Some(driver) = trail.attached_to(path, at) {
-            let words = ask_words(alloc, b"probe", path.bytes(), driver)?;
-            talk.probe_driver(alloc, &words, driver, state, peer)?;
-        }
+    let drivers = trail.drivers_of(alloc, path)?;
+    for driver in &drivers {
+        let words = ask_words(alloc, b"probe", path.bytes(), driver)?;
+        talk.probe_driver(alloc, &words, driver, state, peer)?;
     }
     Ok(())
+}
+
+/// What is behind a line: where it is one of a state, and live drivers are probed, those of the device are.
+#[tactic(auto, using(crate::proofs::Faults::rose_behind))]
+fn look_behind<P: Peer>(
+    alloc: Global,
+    label: &Label,
+    live: &LiveDrivers,
+    trail: &Trail,
+    talk: &mut Talk,
+    peer: &mut P,
+) -> Result<(), Stop>
+    ensures behind { (settings : Settings) → HasLooked result (lives_of live.now) settings label.now (trail_of trail.now) (told talk.old (P.past peer.old) (P.taken peer.old) (P.answers peer.old)) (told talk.new (P.past peer.new) (P.taken peer.new) (P.answers peer.new)) (P.past peer.new) (P.taken peer.new) }
+    ensures write_fault { IsErrOf result (Stop.Fault WriteFault) → Rose (P.write_faults peer.old) (P.write_faults peer.new) }
+    ensures read_fault { IsErrOf result (Stop.Fault ReadFault) → Rose (P.read_faults peer.old) (P.read_faults peer.new) }
+    ensures writes { P.write_faults peer.old ≤ P.write_faults peer.new }
+    ensures reads { P.read_faults peer.old ≤ P.read_faults peer.new }
+{
+    if !live.are_probed() {
+        return Ok(());
+    }
+    match label {
+        Label::State { path, state } => probe(alloc, path, *state, trail, talk, peer),
+        _ => Ok(()),
+    }
 }
 
 /// Makes the next step, and answers whether there was one: its line is to be said, and, where live drivers are probed, they are behind a
@@ -79,8 +106,7 @@ pub(crate) fn take_step<M: Machine, P: Peer>(
     talk: &mut Talk,
     peer: &mut P,
 ) -> Result<bool, Stop>
-    ensures makes { IfOk result (λ more. IfMade more (lives_of live.now) (M.settings machine.old) (M.state machine.old) (M.state machine.new) (P.answers peer.old)) }
-    ensures quiet { IfOk result (λ more. more ≡ false → IsQuiet (M.settings machine.new) (M.state machine.new)) }
+    ensures stepped { HasStepped result (lives_of live.now) (M.settings machine.old) (scene (M.state machine.old) (trail_of trail.old) (told talk.old (P.past peer.old) (P.taken peer.old) (P.answers peer.old))) (scene (M.state machine.new) (trail_of trail.new) (told talk.new (P.past peer.new) (P.taken peer.new) (P.answers peer.new))) (P.past peer.new) (P.taken peer.new) }
     ensures same { M.settings machine.new ≡ M.settings machine.old }
     ensures events { M.events machine.new ≡ M.events machine.old }
     ensures write_fault { IsErrOf result (Stop.Fault WriteFault) → Rose (P.write_faults peer.old) (P.write_faults peer.new) }
@@ -93,10 +119,6 @@ pub(crate) fn take_step<M: Machine, P: Peer>(
     };
     talk.add_label(&label, peer)?;
     trail.follow(alloc, live, &label)?;
-    if let Label::State { path, state } = &label {
-        if live.are_probed() {
-            probe(alloc, path, *state, trail, talk, peer)?;
-        }
-    }
+    look_behind(alloc, &label, live, trail, talk, peer)?;
     Ok(true)
 }

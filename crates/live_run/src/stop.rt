@@ -23,7 +23,7 @@ pub enum DriveError {
     WriteFault,
     /// Memory was refused.
     WantOfMemory,
-    /// More than 16,777,216 events happened, or there were 2^64 asks.
+    /// More than 16,777,216 events happened.
     TooLarge,
 }
 
@@ -88,5 +88,16 @@ impl From<AllocError> for DriveError {
 
     fn from(_: AllocError) -> Self {
         DriveError::WantOfMemory
+    }
+}
+
+impl From<DriveError> for Stop {
+    ghost use Rattle.std.specs.Prelude.{◌≡◌};
+    ghost use Rattle.live_run.specs.declared.stop.Stop.TheVariants.{Fault};
+
+    ghost from_gives = { λ from e. e ≡ Fault from };
+
+    fn from(error: DriveError) -> Self {
+        Stop::Fault(error)
     }
 }

@@ -1,11 +1,12 @@
 //! What is said, and what is heard.
-ghost use Rattle.std.specs.Prelude.{◌≡◌, ◌≤◌, IfOk, IsErrOf, OnOk};
+ghost use Rattle.std.specs.Prelude.{◌≡◌, ◌≤◌, ◌++◌, ◌∷◌, [], OnErr, OnOk, IfOk, IsErrOf};
 ghost use Rattle.pnp_io.specs.Outside.{Rose};
-ghost use Rattle.live_io.specs.Turns.{Hears};
-ghost use Rattle.live_io.specs.declared.peer.Heard.TheVariants.{Line};
-ghost use Rattle.live_model.specs.Answers.{reply_in};
+ghost use Rattle.pnp_labels.specs.Texts.{label_line};
+ghost use Rattle.live_model.specs.Answers.{hello, reply_in};
+ghost use Rattle.live_model.specs.Fronts.{IsFront};
+ghost use Rattle.live_model.specs.Outputs.{asked, says};
 ghost use Rattle.live_run.specs.declared.stop.DriveError.TheVariants.{ReadFault, WriteFault};
-ghost use Rattle.live_run.specs.Steps.{Replies, TakesReply};
+ghost use Rattle.live_run.specs.Talks.{HasAnswered, HasGreeted, IsSaid, IsTurn, TakesReply, told};
 
 use crate::answers::{are_tags, is_taken, words_of};
 use crate::notes::{push_ask, push_tags};
@@ -41,7 +42,10 @@ impl Drop for Talk {
 
 impl Talk {
     /// A talk in which nothing was said.
-    pub(crate) fn new(alloc: Global) -> Talk {
+    pub(crate) fn new(alloc: Global) -> Talk
+        ensures said { result.said.items ≡ [] }
+        ensures asks { result.asks ≡ 0 }
+    {
         Talk {
             said: Vec::new(alloc),
             line: Vec::new(alloc),
@@ -52,7 +56,8 @@ impl Talk {
     /// Says all that is to be said, and hears a line.
     #[tactic(auto, using(crate::proofs::Faults::rose_behind))]
     fn turn<P: Peer>(&mut self, peer: &mut P) -> Result<(), Stop>
-        ensures hears { OnOk result (Hears (P.answers peer.old) Line self.new.line.items (P.answers peer.new)) }
+        ensures turn { IsTurn result (told self.old (P.past peer.old) (P.taken peer.old) (P.answers peer.old)) (told self.new (P.past peer.new) (P.taken peer.new) (P.answers peer.new)) self.new.line.items (P.past peer.new) (P.taken peer.new) }
+        ensures all { OnOk result (self.new.said.items ≡ []) }
         ensures write_fault { IsErrOf result (Stop.Fault WriteFault) → Rose (P.write_faults peer.old) (P.write_faults peer.new) }
         ensures read_fault { IsErrOf result (Stop.Fault ReadFault) → Rose (P.read_faults peer.old) (P.read_faults peer.new) }
         ensures writes { P.write_faults peer.old ≤ P.write_faults peer.new }
@@ -70,6 +75,9 @@ impl Talk {
     /// Hears the first line, before anything is said.
     #[tactic(auto, using(crate::proofs::Faults::rose_behind))]
     pub(crate) fn hear_hello<P: Peer>(&mut self, peer: &mut P) -> Result<(), Stop>
+        requires said { self.old.said.items ≡ [] }
+        ensures greeted { HasGreeted result (told self.old (P.past peer.old) (P.taken peer.old) (P.answers peer.old)) (told self.new (P.past peer.new) (P.taken peer.new) (P.answers peer.new)) (P.past peer.new) (P.taken peer.new) }
+        ensures all { OnOk result (self.new.said.items ≡ []) }
         ensures write_fault { IsErrOf result (Stop.Fault WriteFault) → Rose (P.write_faults peer.old) (P.write_faults peer.new) }
         ensures read_fault { IsErrOf result (Stop.Fault ReadFault) → Rose (P.read_faults peer.old) (P.read_faults peer.new) }
         ensures writes { P.write_faults peer.old ≤ P.write_faults peer.new }
@@ -86,6 +94,9 @@ impl Talk {
     /// Says all that is to be said.
     #[tactic(auto, using(crate::proofs::Faults::rose_behind))]
     pub(crate) fn flush<P: Peer>(&mut self, peer: &mut P) -> Result<(), PeerError>
+        ensures said { OnOk result ((told self.new (P.past peer.new) (P.taken peer.new) (P.answers peer.new)) ≡ (told self.old (P.past peer.old) (P.taken peer.old) (P.answers peer.old))) }
+        ensures done { OnOk result (IsSaid (told self.old (P.past peer.old) (P.taken peer.old) (P.answers peer.old)) (P.past peer.new) (P.taken peer.new)) }
+        ensures front { OnErr result (IsFront (told self.old (P.past peer.old) (P.taken peer.old) (P.answers peer.old)) (P.past peer.new) (P.taken peer.new)) }
         ensures write_fault { IsErrOf result PeerError.WriteFault → Rose (P.write_faults peer.old) (P.write_faults peer.new) }
         ensures read_fault { IsErrOf result PeerError.ReadFault → Rose (P.read_faults peer.old) (P.read_faults peer.new) }
         ensures writes { P.write_faults peer.old ≤ P.write_faults peer.new }
@@ -98,9 +109,15 @@ impl Talk {
 
     /// The line of a label is to be said.
     #[tactic(auto, using(crate::proofs::Faults::rose_behind))]
-    pub(crate) fn add_label<P: Peer>(&mut self, label: &Label, peer: &mut P) -> Result<(), Stop>
-        ensures write_fault { IsErrOf result (Stop.Fault WriteFault) → Rose (P.write_faults peer.old) (P.write_faults peer.new) }
-        ensures read_fault { IsErrOf result (Stop.Fault ReadFault) → Rose (P.read_faults peer.old) (P.read_faults peer.new) }
+    pub(crate) fn add_label<P: Peer>(
+        &mut self,
+        label: &Label,
+        peer: &mut P,
+    ) -> Result<(), DriveError>
+        ensures said { OnOk result ((told self.new (P.past peer.new) (P.taken peer.new) (P.answers peer.new)) ≡ says (label_line label.now ++ 10 ∷ []) (told self.old (P.past peer.old) (P.taken peer.old) (P.answers peer.old))) }
+        ensures front { OnErr result (IsFront (says (label_line label.now ++ 10 ∷ []) (told self.old (P.past peer.old) (P.taken peer.old) (P.answers peer.old))) (P.past peer.new) (P.taken peer.new)) }
+        ensures write_fault { IsErrOf result WriteFault → Rose (P.write_faults peer.old) (P.write_faults peer.new) }
+        ensures read_fault { IsErrOf result ReadFault → Rose (P.read_faults peer.old) (P.read_faults peer.new) }
         ensures writes { P.write_faults peer.old ≤ P.write_faults peer.new }
         ensures reads { P.read_faults peer.old ≤ P.read_faults peer.new }
     {
@@ -114,7 +131,7 @@ impl Talk {
     /// The next ask, of these words, is said, and its answer is heard.
     #[tactic(auto, using(crate::proofs::Faults::rose_behind))]
     pub(crate) fn ask<P: Peer>(&mut self, words: &[u8], peer: &mut P) -> Result<(), Stop>
-        ensures hears { OnOk result (Hears (P.answers peer.old) Line self.new.line.items (P.answers peer.new)) }
+        ensures turn { IsTurn result (asked words.now (told self.old (P.past peer.old) (P.taken peer.old) (P.answers peer.old))) (told self.new (P.past peer.new) (P.taken peer.new) (P.answers peer.new)) self.new.line.items (P.past peer.new) (P.taken peer.new) }
         ensures write_fault { IsErrOf result (Stop.Fault WriteFault) → Rose (P.write_faults peer.old) (P.write_faults peer.new) }
         ensures read_fault { IsErrOf result (Stop.Fault ReadFault) → Rose (P.read_faults peer.old) (P.read_faults peer.new) }
         ensures writes { P.write_faults peer.old ≤ P.write_faults peer.new }
@@ -123,8 +140,8 @@ impl Talk {
         let Some(asks) = self.asks.checked_add(1) else {
             return Err(Stop::Fault(DriveError::TooLarge));
         };
-        self.asks = asks;
         push_ask(&mut self.said, asks, words)?;
+        self.asks = asks;
         self.turn(peer)
     }
 
@@ -154,7 +171,7 @@ impl Talk {
         }
     }
 
-    /// Asks a driver, and hears what it answers: the next line of the answers says it. Which rules the driver broke is to be said.
+    /// Asks a driver, and hears what it answers; which rules it broke is to be said.
     #[tactic(auto, using(crate::proofs::Faults::rose_behind))]
     pub(crate) fn ask_driver<P: Peer>(
         &mut self,
@@ -164,7 +181,7 @@ impl Talk {
         may_pend: bool,
         peer: &mut P,
     ) -> Result<Answer, Stop>
-        ensures replies { IfOk result (λ answer. Replies (P.answers peer.old) self.new.line.items (P.answers peer.new) self.new.asks may_pend answer) }
+        ensures answered { HasAnswered result may_pend driver.now (asked words.now (told self.old (P.past peer.old) (P.taken peer.old) (P.answers peer.old))) (told self.new (P.past peer.new) (P.taken peer.new) (P.answers peer.new)) (P.past peer.new) (P.taken peer.new) }
         ensures write_fault { IsErrOf result (Stop.Fault WriteFault) → Rose (P.write_faults peer.old) (P.write_faults peer.new) }
         ensures read_fault { IsErrOf result (Stop.Fault ReadFault) → Rose (P.read_faults peer.old) (P.read_faults peer.new) }
         ensures writes { P.write_faults peer.old ≤ P.write_faults peer.new }

@@ -1,9 +1,14 @@
 //! What the lines of a run told of its live drivers.
-ghost use Rattle.std.specs.Prelude.{◌<◌, IfSome, length};
+ghost use Rattle.std.specs.Prelude.{◌≡◌, ◌<◌, IfOk, IfSome, OnOk, filter, length, map, not, option_map};
+ghost use Rattle.std.specs.List.{position};
+ghost use Rattle.pnp_model.specs.Keyed.{without_first};
+ghost use Rattle.live_model.specs.Trails.{attach, drivers_of, follow, is_at, is_request, no_trail, request_at, wait};
+ghost use Rattle.live_run.specs.Views.{IfWaits, attached_of, lives_of, trail_of, waiting_of};
 
+use crate::answers::is_word;
 use crate::live::LiveDrivers;
 use device_ids::{Text, WantOfMemory};
-use pnp_labels::{Deed, DevState, Label, Minor, Shown};
+use pnp_labels::{Deed, DevState, Label, Minor, Shown, minor_text};
 use std::alloc::Global;
 
 /// A live driver that is attached to a device.
@@ -52,21 +57,53 @@ impl Drop for Trail {
     }
 }
 
+impl Attached {
+    /// Whether it is attached to the device of this path.
+    fn is_at(&self, path: &Text) -> bool
+        ensures { result ≡ is_at path.now (attached_of self.now) }
+    {
+        self.path.same(path)
+    }
+}
+
+impl Waiting {
+    /// Whether it is this request of the device of this path.
+    fn is_request(&self, path: &Text, minor: Minor) -> bool
+        ensures { result ≡ is_request path.now minor (waiting_of self.now) }
+    {
+        is_word(minor_text(self.minor), minor_text(minor)) && self.path.same(path)
+    }
+}
+
 /// The place of the first request of this minor for the device of this path.
 fn place_of(waiting: &[Waiting], path: &Text, minor: Minor) -> Option<usize>
-    ensures { IfSome result (λ at. at < length waiting.now) }
+    ensures place { result ≡ position (λ w. is_request path.now minor (waiting_of w)) waiting.now }
+    ensures within { IfSome result (λ at. at < length waiting.now) }
 {
-    for at in 0..waiting.len() {
-        if waiting[at].minor == minor && waiting[at].path.same(path) {
-            return Some(at);
-        }
+    waiting.iter().position(|one| one.is_request(path, minor))
+}
+
+/// Takes out what is attached to the device of this path.
+fn detach(attached: &mut Vec<Attached>, path: &Text)
+    ensures { attached.new.items ≡ filter (λ a. not (is_at path.now (attached_of a))) attached.old.items }
+{
+    attached.retain(|one| !one.is_at(path));
+}
+
+/// Takes out the first request of this minor for the device of this path.
+fn complete(waiting: &mut Vec<Waiting>, path: &Text, minor: Minor)
+    ensures { waiting.new.items ≡ without_first (λ w. is_request path.now minor (waiting_of w)) waiting.old.items }
+{
+    if let Some(at) = place_of(waiting, path, minor) {
+        waiting.remove(at);
     }
-    None
 }
 
 impl Trail {
     /// Nothing was told. It takes no memory.
-    pub(crate) fn new(alloc: Global) -> Trail {
+    pub(crate) fn new(alloc: Global) -> Trail
+        ensures { trail_of result ≡ no_trail }
+    {
         Trail {
             attached: Vec::new(alloc),
             waiting: Vec::new(alloc),
@@ -80,18 +117,15 @@ impl Trail {
         live: &LiveDrivers,
         path: &Text,
         driver: &Text,
-    ) -> Result<(), WantOfMemory> {
+    ) -> Result<(), WantOfMemory>
+        ensures { OnOk result (trail_of self.new ≡ attach (lives_of live.now) path.now driver.now (trail_of self.old)) }
+    {
         if live.has(driver) {
             let path = path.copy(alloc)?;
             let driver = driver.copy(alloc)?;
             self.attached.push(Attached { path, driver })?;
         }
         Ok(())
-    }
-
-    /// A device has no drivers.
-    fn detach(&mut self, path: &Text) {
-        self.attached.retain(|one| !one.path.same(path));
     }
 
     /// A request waits at a driver, if that is live.
@@ -102,7 +136,9 @@ impl Trail {
         path: &Text,
         minor: Minor,
         driver: &Text,
-    ) -> Result<(), WantOfMemory> {
+    ) -> Result<(), WantOfMemory>
+        ensures { OnOk result (trail_of self.new ≡ wait (lives_of live.now) path.now minor driver.now (trail_of self.old)) }
+    {
         if live.has(driver) {
             let path = path.copy(alloc)?;
             let driver = driver.copy(alloc)?;
@@ -115,20 +151,15 @@ impl Trail {
         Ok(())
     }
 
-    /// A request was completed.
-    fn complete(&mut self, path: &Text, minor: Minor) {
-        if let Some(at) = place_of(&self.waiting, path, minor) {
-            self.waiting.remove(at);
-        }
-    }
-
     /// Follows the line of a label. Cost: the number of live drivers that are attached, and of requests that wait.
     pub(crate) fn follow(
         &mut self,
         alloc: Global,
         live: &LiveDrivers,
         label: &Label,
-    ) -> Result<(), WantOfMemory> {
+    ) -> Result<(), WantOfMemory>
+        ensures { OnOk result (trail_of self.new ≡ follow (lives_of live.now) label.now (trail_of self.old)) }
+    {
         match label {
             Label::Add {
                 path,
@@ -145,7 +176,7 @@ impl Trail {
                 path,
                 state: DevState::NoStack,
             } => {
-                self.detach(path);
+                detach(&mut self.attached, path);
                 Ok(())
             }
             Label::Did(
@@ -155,7 +186,7 @@ impl Trail {
                     shown: _,
                 },
             ) => {
-                self.complete(path, *minor);
+                complete(&mut self.waiting, path, *minor);
                 Ok(())
             }
             _ => Ok(()),
@@ -163,28 +194,30 @@ impl Trail {
     }
 
     /// Whether a request waits at a live driver.
-    pub(crate) fn waits(&self) -> bool {
+    pub(crate) fn waits(&self) -> bool
+        ensures { IfWaits result (trail_of self.now) }
+    {
         !self.waiting.is_empty()
     }
 
     /// The live driver at which a request of this minor waits for the device of this path.
-    pub(crate) fn driver_at(&self, path: &Text, minor: Minor) -> Option<&Text> {
+    pub(crate) fn driver_at(&self, path: &Text, minor: Minor) -> Option<&Text>
+        ensures { option_map (λ d. d.now) result ≡ option_map (λ w. w.driver) (request_at path.now minor (trail_of self.now)) }
+    {
         let at = place_of(&self.waiting, path, minor)?;
         Some(&self.waiting[at].driver)
     }
 
-    /// How many live drivers are attached.
-    pub(crate) fn attached(&self) -> usize {
-        self.attached.len()
-    }
-
-    /// The live driver of a place, where it is attached to the device of this path.
-    pub(crate) fn attached_to(&self, path: &Text, at: usize) -> Option<&Text> {
-        let one = self.attached.get(at)?;
-        if one.path.same(path) {
-            Some(&one.driver)
-        } else {
-            None
+    /// The live drivers that are attached to the device of this path, the lowest first.
+    pub(crate) fn drivers_of(&self, alloc: Global, path: &Text) -> Result<Vec<&Text>, WantOfMemory>
+        ensures { IfOk result (λ drivers. map (λ d. d.now) drivers.items ≡ drivers_of path.now (trail_of self.now)) }
+    {
+        let mut drivers = Vec::new(alloc);
+        for one in &self.attached {
+            if one.is_at(path) {
+                drivers.push(&one.driver)?;
+            }
         }
+        Ok(drivers)
     }
 }
