@@ -12,9 +12,10 @@ use Rattle.pnp_model.specs.Books.{name_of}
 use Rattle.pnp_model.specs.Endings.{joined}
 use Rattle.pnp_model.specs.Events.{happens}
 use Rattle.pnp_model.specs.Records.{Settings, State}
+use Rattle.free_model.specs.Outputs.{end_text, error_line}
 use Rattle.free_model.proofs.Outs.{joined_on}
 use Rattle.live_model.specs.Lives.{Lives}
-use Rattle.live_model.specs.Notes.{ask_line, poll_words, probe_words, query_words}
+use Rattle.live_model.specs.Notes.{ask_line, broke_lines, done_line, poll_words, probe_lines, probe_words, query_words}
 use Rattle.live_model.specs.Outputs.{Acts, Ask, Asks, Ended, Goes, IsOver, Leads, Place, Probes, Rests, Stand, Told, asked, behind_line, completion, hears, labelled, says, stand_of, turned, with_more}
 use Rattle.live_model.specs.Outputs as live
 use Rattle.live_model.specs.Trails.{drivers_of}
@@ -100,7 +101,7 @@ record Due (answers : Text) (t : Told) : Type 0 where
   heard : answers ≡ heard_in past.turns ++ rest
   last : EndsWithAsk t.asks past.open_
 
-told_more : (answers text : Text) (t : Told) → Answered answers t → Answered answers (says text t)
+abbrev told_more : (answers text : Text) (t : Told) → Answered answers t → Answered answers (says text t)
 told_more answers text t h = record {
   past = with_said text h.past;
   is = ap (option_map (with_said text)) h.is;
@@ -190,24 +191,34 @@ goes_talked : (answers : Text) (lives : Lives) (settings : Settings) (p q : Plac
 goes_talked answers lives settings _ _ (live.steps s label new h) talked = label_talked answers lives label new s talked
 goes_talked answers lives settings _ _ (live.asks s q is) talked = ask_due answers (query_words s.state q) s.told talked
 goes_talked answers lives settings _ _ (live.answered s q line rest reply label new heard is h) talked =
-    label_talked answers lives label new _
-    (open_more answers _ _ (of_notes _ (broke_notes s.told.asks (name_of s.state.core.rack q.driver) reply.tags)) (line_over answers line rest s.told talked heard))
+    let broke : Text = broke_lines s.told.asks (name_of s.state.core.rack q.driver) reply.tags in
+    label_talked answers lives label new (live.saying broke (live.hearing line rest s))
+    (open_more answers broke (hears (Some line) rest s.told) (of_notes broke (broke_notes s.told.asks (name_of s.state.core.rack q.driver) reply.tags))
+    (line_over answers line rest s.told talked heard))
 goes_talked answers lives settings _ _ (live.probes s path state driver more) talked = ask_due answers (probe_words path driver) s.told talked
 goes_talked answers lives settings _ _ (live.probed s path state driver more line rest reply heard is) talked =
-    open_more answers _ _ (of_notes _ (probe_notes s.told.asks driver state reply.answer reply.tags)) (line_over answers line rest s.told talked heard)
+    open_more answers (probe_lines s.told.asks driver state reply.answer reply.tags) (hears (Some line) rest s.told)
+    (of_notes (probe_lines s.told.asks driver state reply.answer reply.tags) (probe_notes s.told.asks driver state reply.answer reply.tags))
+    (line_over answers line rest s.told talked heard)
 goes_talked answers lives settings _ _ (live.probed_all s path state) talked = talked
 goes_talked answers lives settings _ _ (live.rests s quiet none) talked = talked
 goes_talked answers lives settings _ _ (live.polls s w more quiet some) talked = ask_due answers poll_words s.told talked
 goes_talked answers lives settings _ _ (live.waits s line rest heard is) talked = line_over answers line rest s.told talked heard
 goes_talked answers lives settings _ _ (live.complete s line rest c w heard is there) talked =
-    open_more answers _ _ (of_label (happens s.state (completion c).event).label)
-    (open_more answers _ _ (of_notes _ (done_notes s.told.asks w.driver c.tags)) (line_over answers line rest s.told talked heard))
-goes_talked answers lives settings _ _ (live.event s number event rest is) talked = open_more answers _ _ (of_label (happens s.state event).label) talked
-goes_talked answers lives settings _ _ (live.done s is) talked = told_more answers _ _ talked.told
-goes_talked answers lives settings _ _ (live.bad s number is) talked = told_more answers _ _ talked.told
-goes_talked answers lives settings _ _ (live.no_line ask s line rest heard) talked = told_more answers _ _ (none_over answers s.told talked).told
-goes_talked answers lives settings _ _ (live.long_line ask s line rest heard) talked = told_more answers _ _ (none_over answers s.told talked).told
-goes_talked answers lives settings _ _ (live.no_answer ask s line rest heard missed) talked = told_more answers _ _ (line_over answers line rest s.told talked heard).told
+    let notes : Text = done_line s.told.asks w.driver ++ broke_lines s.told.asks w.driver c.tags in
+    let label : Label = (happens s.state (completion c).event).label in
+    open_more answers (label_line label ++ 10 ∷ []) (says notes (hears (Some line) rest s.told)) (of_label label)
+    (open_more answers notes (hears (Some line) rest s.told) (of_notes notes (done_notes s.told.asks w.driver c.tags)) (line_over answers line rest s.told talked heard))
+goes_talked answers lives settings _ _ (live.event s number event rest is) talked =
+    open_more answers (label_line (happens s.state event).label ++ 10 ∷ []) s.told (of_label (happens s.state event).label) talked
+goes_talked answers lives settings _ _ (live.done s is) talked = told_more answers (end_text s.state) s.told talked.told
+goes_talked answers lives settings _ _ (live.bad s number is) talked = told_more answers (error_line number ++ end_text s.state) s.told talked.told
+goes_talked answers lives settings _ _ (live.no_line ask s line rest heard) talked =
+    told_more answers (live.end_line s.told.asks) (hears None s.told.answers s.told) (none_over answers s.told talked).told
+goes_talked answers lives settings _ _ (live.long_line ask s line rest heard) talked =
+    told_more answers (live.bad_line s.told.asks) (hears None s.told.answers s.told) (none_over answers s.told talked).told
+goes_talked answers lives settings _ _ (live.no_answer ask s line rest heard missed) talked =
+    told_more answers (live.bad_line s.told.asks) (hears (Some line) rest s.told) (line_over answers line rest s.told talked heard).told
 
 leads_talked : (answers : Text) (lives : Lives) (settings : Settings) (p q : Place) → Leads lives settings p q → Talked answers p → Talked answers q
 leads_talked answers lives settings p _ (live.here _) talked = talked

@@ -61,35 +61,36 @@ below_too a b c lt = grind (arith, lt)
 pub above_too : (a b c : ℕ) → c < a → a ≤ b → nat_le b c ≡ false
 above_too a b c lt le = grind (arith, lt, le)
 
-feed_apart : (text : Text) → feed text < length text → text ≡ take (feed text) text ++ 10 ∷ drop (feed text + 1) text
+-- what stands before the LF at a place, and behind it
+abbrev around : ℕ → List ℕ → List ℕ
+around n text = take n text ++ 10 ∷ drop (n + 1) text
+
+one_suc : (k : ℕ) → 1 + k ≡ suc k
+one_suc k = omega arith
+
+suc_one : (k : ℕ) → suc k + 1 ≡ suc (k + 1)
+suc_one k = omega arith
+
+around_next : (x n : ℕ) (xs : List ℕ) → around (1 + n) (x ∷ xs) ≡ x ∷ around n xs
+around_next x n xs = ap (λ (k : ℕ). around k (x ∷ xs)) (one_suc n) ∙ ap (λ (k : ℕ). x ∷ (take n xs ++ 10 ∷ drop k (x ∷ xs))) (suc_one n)
+
+feed_apart : (text : Text) → feed text < length text → text ≡ around (feed text) text
 unfolding feed
 feed_apart [] inside = absurd (omega arith)
 feed_apart (x ∷ xs) inside = by_test (x == 10) refl (λ in_rest. feed_apart xs in_rest)
   where
-    abbrev at : ℕ → List ℕ → List ℕ
-    at n text = take n text ++ 10 ∷ drop (n + 1) text
-
-    next : (n : ℕ) → at (1 + n) (x ∷ xs) ≡ x ∷ at n xs
-    next n = ap (λ (k : ℕ). take k (x ∷ xs) ++ 10 ∷ drop (k + 1) (x ∷ xs)) (one_suc n) ∙ ap (λ (k : ℕ). x ∷ (take n xs ++ 10 ∷ drop k (x ∷ xs))) (suc_one n)
-      where
-        one_suc : (k : ℕ) → 1 + k ≡ suc k
-        one_suc k = omega arith
-
-        suc_one : (k : ℕ) → suc k + 1 ≡ suc (k + 1)
-        suc_one k = omega arith
-
-    by_test : (b : Bool) → (x == 10) ≡ b → (feed xs < length xs → xs ≡ at (feed xs) xs) → x ∷ xs ≡ at (cond (x == 10) 0 (1 + feed xs)) (x ∷ xs)
+    by_test : (b : Bool) → (x == 10) ≡ b → (feed xs < length xs → xs ≡ around (feed xs) xs) → x ∷ xs ≡ around (cond (x == 10) 0 (1 + feed xs)) (x ∷ xs)
     by_test true e in_rest =
         let ten : x ≡ 10 = grind (arith, e) in
-        ap (λ (y : ℕ). y ∷ xs) ten ∙ sym (ap (λ (b : Bool). at (cond b 0 (1 + feed xs)) (x ∷ xs)) e)
+        ap (λ (y : ℕ). y ∷ xs) ten ∙ sym (ap (λ (b : Bool). around (cond b 0 (1 + feed xs)) (x ∷ xs)) e)
     by_test false e in_rest =
         let here : feed xs < length xs = let le : cond (x == 10) 0 (1 + feed xs) < length (x ∷ xs) = inside in grind (arith, e, le) in
-        ap (λ (t : List ℕ). x ∷ t) (in_rest here) ∙ sym (next (feed xs)) ∙ sym (ap (λ (b : Bool). at (cond b 0 (1 + feed xs)) (x ∷ xs)) e)
+        ap (λ (t : List ℕ). x ∷ t) (in_rest here) ∙ sym (around_next x (feed xs) xs) ∙ sym (ap (λ (b : Bool). around (cond b 0 (1 + feed xs)) (x ∷ xs)) e)
 
 -- a line that is heard, its LF, and what stands behind it, are the text
 pub line_apart : (text line : Text) (new : Option Text) → HearsOf text Line line new → text ≡ (line ++ 10 ∷ []) ++ drop (feed_at text + 1) text
 line_apart text line new h =
     let (short, whole) = is_line (nat_le (feed_at text) 4096) (nat_lt (feed_at text) (length text)) h.heard_is in
     let inside : feed text < length text = subst (λ (n : ℕ). n < length text) (feed_is text) (below (feed_at text) (length text) whole) in
-    feed_apart text inside ∙ ap (λ (n : ℕ). take n text ++ 10 ∷ drop (n + 1) text) (sym (feed_is text))
+    feed_apart text inside ∙ ap (λ (n : ℕ). around n text) (sym (feed_is text))
     ∙ ap (λ (t : Text). t ++ 10 ∷ drop (feed_at text + 1) text) (sym h.line_is.0) ∙ sym (append_assoc line (10 ∷ []) (drop (feed_at text + 1) text))

@@ -2,7 +2,6 @@
 use Rattle.std.proofs.Common.{ℕ, zero, suc, ◌+◌, ◌≡◌, ◌==◌, ◌&&◌, Bool, true, false, not, List, [], ◌∷◌, ◌++◌, map, codes, cond, refl, sym, ap, ◌∙◌, subst, if◌then◌else◌}
 use Rattle.std.specs.Fmt.{decimal}
 use Rattle.std.specs.List.{filter}
-use Rattle.std.proofs.lemmas.List.{append_assoc, append-nil}
 use Rattle.std.proofs.lemmas.List.Elements.{filter-append}
 use Rattle.pnp_labels.specs.Texts.{Text, label_line}
 use Rattle.pnp_labels.specs.declared.label.Label.{Label}
@@ -13,10 +12,6 @@ use Rattle.pnp_model.specs.Endings.{joined}
 use Rattle.free_model.proofs.Outs.{joined_on}
 use Rattle.live_model.specs.Notes.{ask_line, broke_line, broke_lines, done_line, fits, misfit_tag, probe_lines}
 use Rattle.live_laws.specs.Notes.{is_ask, is_note, without_notes}
-
--- a text is these lines
-abbrev pub AreLines : Text → List Text → Type 0
-AreLines text lines = text ≡ joined lines
 
 -- lines that are notes, and none of them an ask
 pub record Notes (text : Text) : Type 0 where
@@ -71,21 +66,11 @@ note line is asks = record {
   none = ap (λ (b : Bool). if b then line ∷ [] else []) asks;
 }
 
--- a text, another, and an LF
-three : (a b : Text) → (a ++ b) ++ 10 ∷ [] ≡ a ++ (b ++ 10 ∷ [])
-three a b = append_assoc a b (10 ∷ [])
-
 done_note : (number : ℕ) (driver : Text) → Notes (done_line number driver)
-done_note number driver =
-    subst Notes (three (codes "# done ") (decimal number ++ 32 ∷ driver) ∙ ap (λ (t : Text). codes "# done " ++ t) (three (decimal number) (32 ∷ driver)))
-    (note (codes "# done " ++ (decimal number ++ 32 ∷ driver)) refl refl)
+done_note number driver = note (codes "# done " ++ decimal number ++ 32 ∷ driver) refl refl
 
 broke_note : (number : ℕ) (driver tag : Text) → Notes (broke_line number driver tag)
-broke_note number driver tag =
-    subst Notes
-    (three (codes "# broke ") (decimal number ++ 32 ∷ driver ++ 32 ∷ tag)
-    ∙ ap (λ (t : Text). codes "# broke " ++ t) (three (decimal number) (32 ∷ driver ++ 32 ∷ tag) ∙ ap (λ (t : Text). decimal number ++ 32 ∷ t) (three driver (32 ∷ tag))))
-    (note (codes "# broke " ++ (decimal number ++ 32 ∷ driver ++ 32 ∷ tag)) refl refl)
+broke_note number driver tag = note (codes "# broke " ++ decimal number ++ 32 ∷ driver ++ 32 ∷ tag) refl refl
 
 pub broke_notes : (number : ℕ) (driver : Text) (tags : List Text) → Notes (broke_lines number driver tags)
 broke_notes number driver [] = no_notes
@@ -103,10 +88,4 @@ probe_notes number driver state answer tags = by_fit (fits state answer)
 
 -- the line of an ask, without its LF
 abbrev pub ask_text : ℕ → Text → Text
-ask_text number words = codes "# ask " ++ (decimal number ++ 32 ∷ words)
-
-pub ask_is : (number : ℕ) (words : Text) → ask_line number words ≡ joined (ask_text number words ∷ [])
-ask_is number words = sym (three (codes "# ask ") (decimal number ++ 32 ∷ words) ∙ ap (λ (t : Text). codes "# ask " ++ t) (three (decimal number) (32 ∷ words)))
-
-pub ask_notes : (number : ℕ) (words : Text) → without_notes (ask_text number words ∷ []) ≡ []
-ask_notes number words = refl
+ask_text number words = codes "# ask " ++ decimal number ++ 32 ∷ words

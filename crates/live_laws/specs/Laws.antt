@@ -4,13 +4,17 @@ use Rattle.live_io.specs.Turns.{Past}
 use Rattle.pnp_labels.specs.Texts.{Text}
 use Rattle.pnp_labels.specs.declared.words.DriverKind.{DriverKind}
 use Rattle.pnp_model.specs.Endings.{joined}
-use Rattle.pnp_model.specs.Records.{Settings}
+use Rattle.pnp_model.specs.Laws.{Reaches}
+use Rattle.pnp_model.specs.Records.{Driver, Settings, State}
+use Rattle.pnp_model.specs.Runs.{Entry}
 use Rattle.script_reader.specs.Script.{Trace}
 use Rattle.free_model.specs.Checks.{IsYes, beginning}
-use Rattle.free_model.specs.Frees.{free_opening}
+use Rattle.free_model.specs.Frees.{free_opening, with_rack}
 use Rattle.free_model.specs.Outputs.{MachinePrints, end_text}
+use Rattle.live_model.specs.Lived.{IsLived}
 use Rattle.live_model.specs.Lives.{Lives}
-use Rattle.live_model.specs.Outputs.{AnswersBad, AnswersEnd, BadLine, Done, Ended, LiveOutput, end_line}
+use Rattle.live_model.specs.Outputs.{Acts, AnswersEnd, BadLine, Done, Ended, Leads, LiveOutput, Place, Told, end_line, stand_of}
+use Rattle.live_model.specs.Outputs as live
 use Rattle.live_laws.specs.Notes.{without_notes}
 use Rattle.live_laws.specs.Scripts.{HasNoClients, end_of}
 use Rattle.live_laws.specs.Talks.{AsksCameFirst}
@@ -70,3 +74,20 @@ EachLiveOutputIsARunLaw =
     (lives : Lives) (settings : Settings) (kinds : List DriverKind) (script : Trace) (answers out : Text) (ended : Ended) (then_lived : Trace)
     → HasNoClients script → (ended ≡ Done) ⊎ (ended ≡ BadLine) → (h : LiveOutput lives settings kinds script answers out ended then_lived)
     → IsRunButNotes settings kinds then_lived (end_text h.run.last.state) out
+
+-- The law: but for books, each state of a live run is one of the machine whatever its drivers answer.
+abbrev pub EachLiveStateIsLivedLaw : Type 0
+EachLiveStateIsLivedLaw =
+    (lives : Lives) (settings : Settings) (kinds : List DriverKind) (told : Told) (script : Trace) (p : Place)
+    → Leads lives settings (Acts (live.beginning (free_opening kinds) told script)) p → IsLived settings (stand_of p).state
+
+-- with other books, a state of a run of the machine
+pub record IsButBooks (settings : Settings) (s : State) : Type 0 where
+  pub rack : List Driver
+  pub own : List Driver
+  pub entries : List Entry
+  pub reaches : Reaches settings rack entries (with_rack own s)
+
+-- The law: so, but for books, it is a state of a run by the books. What is proved of nodes, relations and labels in all these holds in it too.
+abbrev pub LivedStatesAreOfRunsLaw : Type 0
+LivedStatesAreOfRunsLaw = (settings : Settings) (s : State) → IsLived settings s → IsButBooks settings s

@@ -1,6 +1,7 @@
 //! What holds of each live run.
 
-ghost use Rattle.live_laws.specs.Laws.{AsksComeFirstLaw, FrontsLaw, NobodyAskedLaw, NobodyLiveLaw, OneLiveOutputLaw};
+ghost use Rattle.live_laws.specs.Laws.{AsksComeFirstLaw, EachLiveOutputIsARunLaw, EachLiveStateIsLivedLaw, FrontsLaw};
+ghost use Rattle.live_laws.specs.Laws.{LivedStatesAreOfRunsLaw, NobodyAskedLaw, NobodyLiveLaw, OneLiveOutputLaw};
 
 /// For a script and answers there is one output, one end, and one script that was lived.
 pub fn one_live_output()
@@ -25,4 +26,20 @@ pub fn fronts()
 /// Each ask is said before its answer is heard, and nothing else is said in between.
 pub fn asks_come_first()
     ensures { AsksComeFirstLaw }
+{}
+
+/// Where the script came to its end, what is written is, but for its notes, a run of the script as it was lived: so the check of traces says
+/// yes to it.
+pub fn each_live_output_is_a_run()
+    ensures { EachLiveOutputIsARunLaw }
+{}
+
+/// But for books, each state of a live run is one of the machine whatever its drivers answer.
+pub fn each_live_state_is_lived()
+    ensures { EachLiveStateIsLivedLaw }
+{}
+
+/// So, but for books, it is a state of a run by the books.
+pub fn lived_states_are_of_runs()
+    ensures { LivedStatesAreOfRunsLaw }
 {}
