@@ -69,7 +69,7 @@ fn run_machine<P: Peer>(
     live: &LiveDrivers,
     peer: &mut P,
 ) -> Status
-    requires events { machine.run.events ≡ 0 }
+    requires events { machine.events ≡ 0 }
     ensures write_fault { result ≡ Status.WriteFault → Rose (P.write_faults peer.old) (P.write_faults peer.new) }
     ensures writes { P.write_faults peer.old ≤ P.write_faults peer.new }
 {
@@ -88,7 +88,7 @@ fn read_named<F: Files>(
 ) -> Result<Named, DriveFault>
     requires few { length inf_names.now ≤ 64 }
     requires budget { budget ≤ 1000000 }
-    ensures { IfOk result (λ named. named.machine.run.events ≡ 0) }
+    ensures { IfOk result (λ named. named.machine.events ≡ 0) }
 {
     let infs = read_infs(alloc, files, inf_names)?;
     let script = read_file(alloc, files, script_name)?;

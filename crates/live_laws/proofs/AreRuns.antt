@@ -19,7 +19,7 @@ use Rattle.free_model.specs.Asks.{Query}
 use Rattle.free_model.specs.Checks.{AllowsFirst, Ends, Follow, IsOfMachine, IsYes, Runs, bad_line, end_bytes}
 use Rattle.free_model.specs.Frees.{FreeSteps, free_opening}
 use Rattle.free_model.specs.Outputs.{end_text, error_line}
-use Rattle.free_model.proofs.Outs.{ending_same, error_too, follow_due, joined_on, quiet_too}
+use Rattle.free_model.proofs.Outs.{ending_same, error_too, follow_due, joined_on}
 use Rattle.free_model.proofs.Racks.{faces_of}
 use Rattle.free_model.proofs.TwinEvents.{Related}
 use Rattle.live_model.specs.Lives.{Lives, StepsFor, live_query}
@@ -30,7 +30,7 @@ use Rattle.live_model.specs.Trails.{drivers_of}
 use Rattle.live_laws.specs.Laws.{EachLiveOutputIsARunLaw, IsRunButNotes}
 use Rattle.live_laws.specs.Notes.{is_note, without_notes}
 use Rattle.live_laws.specs.Scripts.{HasNoClients}
-use Rattle.live_laws.proofs.Books.{happened_too, live_free}
+use Rattle.live_laws.proofs.Books.{happened_too, live_free, quiet_too}
 use Rattle.live_laws.proofs.Nobody.{give_more}
 use Rattle.live_laws.proofs.Pieces.{Notes, ask_text, broke_notes, done_notes, label_is, probe_notes}
 use Rattle.live_laws.proofs.Saying.{more_more, no_more}

@@ -5,12 +5,13 @@ use Rattle.pnp_labels.specs.declared.event.Event.{Event}
 use Rattle.pnp_labels.specs.declared.label.Label.{Label}
 use Rattle.pnp_labels.specs.declared.words.Answer.{Answer}
 use Rattle.pnp_model.specs.Events.{happens}
-use Rattle.pnp_model.specs.Machine.{Steps}
+use Rattle.pnp_model.specs.Machine.{IsQuiet, Steps}
 use Rattle.pnp_model.specs.Records.{Driver, Settings, State}
 use Rattle.free_model.specs.Asks.{Query}
 use Rattle.free_model.specs.Frees.{FreeSteps, StepsBy, told, with_rack}
 use Rattle.free_model.specs.Shapes.{shapes}
 use Rattle.free_model.proofs.Outs.{step_is_free}
+use Rattle.free_model.proofs.Quiets.{quiet_same}
 use Rattle.free_model.proofs.Racks.{faces_of, same_told}
 use Rattle.free_model.proofs.TwinEvents.{Related, TwinEvent, twin_happens}
 use Rattle.live_model.specs.Lives.{StepsFor}
@@ -40,6 +41,10 @@ live_free settings None f s None label new related h = step_is_free settings f s
 live_free settings None f s (Some answer) label new related h = absurd h
 live_free settings (Some q) f s None label new related h = absurd h
 live_free settings (Some q) f s (Some answer) label new related h = answer_free settings f s answer label new related h
+
+-- quiet with some books, quiet with others
+pub quiet_too : (settings : Settings) (f s : State) → Related f s → IsQuiet settings s → IsQuiet settings f
+quiet_too settings f s related h = subst (IsQuiet settings) (sym related.is) (quiet_same settings s related.rack h)
 
 -- an event over other books
 pub record Happened (f s : State) (event : Event) : Type 0 where

@@ -26,7 +26,6 @@ use Rattle.free_model.specs.Asks.{Query}
 use Rattle.free_model.specs.Frees.{StepsBy, free_opening, with_rack}
 use Rattle.free_model.specs.Runs.{FreeRun, without_teaching}
 use Rattle.free_model.proofs.Answered.{each_free_run}
-use Rattle.free_model.proofs.Outs.{quiet_too}
 use Rattle.free_model.proofs.TwinEvents.{Related}
 use Rattle.live_model.specs.Lived.{IsLived}
 use Rattle.live_model.specs.Lives.{Lives, StepsFor, live_query}
@@ -34,7 +33,7 @@ use Rattle.live_model.specs.Outputs.{Acts, Ask, Asks, AsksPoll, AsksProbe, AsksS
 use Rattle.live_model.specs.Outputs as live
 use Rattle.live_model.specs.Trails.{drivers_of}
 use Rattle.live_laws.specs.Laws.{EachLiveStateIsLivedLaw, IsButBooks, LivedStatesAreOfRunsLaw}
-use Rattle.live_laws.proofs.Books.{happened_too, live_free}
+use Rattle.live_laws.proofs.Books.{happened_too, live_free, quiet_too}
 
 -- One state, then the next -------------------------------------------------------------------
 
