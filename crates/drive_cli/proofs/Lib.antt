@@ -1,2 +1,4 @@
 mod Asking
 mod Faults
+mod Machines
+mod Scripts

@@ -5,6 +5,7 @@ ghost use Rattle.live_model.specs.Notes.{ask_words, held_by, may_pend, what_text
 ghost use Rattle.free_run.specs.FreeRuns.{settings};
 
 use device_ids::{Text, WantOfMemory};
+use devnode_tree::Node;
 use free_run::FreeRun;
 use live_run::{LiveAsk, LiveDrivers, Machine, ask_words};
 use pnp_labels::{Answer, AskWhat, Event, Label, Minor, minor_text, push_res};
@@ -56,16 +57,29 @@ fn what_text(what: AskWhat) -> &'static [u8]
     }
 }
 
-/// The words of a query; a start tells what the device holds.
+/// Appends what a request tells of a device: a start tells what it holds.
+fn push_told(words: &mut Vec<u8>, minor: Minor, node: &Node) -> Result<(), WantOfMemory>
+    ensures { OnOk result (words.new.items ≡ words.old.items ++ after_spaces (map res_text (held_by (AskWhat.Irp minor) (Some node.now)))) }
+{
+    match minor {
+        Minor::Start => push_held(words, &node.holds),
+        _ => Ok(()),
+    }
+}
+
+/// The words of a query.
 fn query_words(alloc: Global, query: &Query<'_>, driver: &Text) -> Result<Vec<u8>, WantOfMemory>
     ensures { IfOk result (λ words. words.items ≡ ask_words (what_text query.now.what) query.now.node.now.path driver.now (map res_text (held_by query.now.what (Some query.now.node.now)))) }
 {
     let node = query.node;
     let mut words = ask_words(alloc, what_text(query.what), node.path.bytes(), driver)?;
-    if let AskWhat::Irp(Minor::Start) = query.what {
-        push_held(&mut words, &node.holds)?;
+    match query.what {
+        AskWhat::Add => Ok(words),
+        AskWhat::Irp(minor) => {
+            push_told(&mut words, minor, node)?;
+            Ok(words)
+        }
     }
-    Ok(words)
 }
 
 /// Whether the answer may be that it is pending: AddDevice is not pended.
