@@ -2,3 +2,4 @@ mod Asking
 mod Faults
 mod Machines
 mod Scripts
+mod Outcomes

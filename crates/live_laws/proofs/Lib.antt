@@ -9,3 +9,4 @@ pub mod Longer
 pub mod AsksFirst
 pub mod AreRuns
 pub mod LivedStates
+pub mod Ending

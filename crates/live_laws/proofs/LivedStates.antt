@@ -41,14 +41,14 @@ run_on : (settings : Settings) (old mid new : State) (a b : List Entry) → Free
 run_on settings old mid new [] b h g = subst (λ (s : State). FreeRun settings s b new) h g
 run_on settings old mid new (entry ∷ a) b (next, goes, h) g = (next, goes, run_on settings next mid new a b h g)
 
-related_of : (settings : Settings) (s : State) → (h : IsLived settings s) → Related h.free s
+pub related_of : (settings : Settings) (s : State) → (h : IsLived settings s) → Related h.free s
 related_of settings s h = record { rack = h.rack; is = h.is; shape = h.shape }
 
 -- the machine at its opening
 pub opening_lived : (settings : Settings) (kinds : List DriverKind) → IsLived settings (free_opening kinds)
 opening_lived settings kinds = record { kinds = kinds; entries = []; free = free_opening kinds; run = refl; rack = (free_opening kinds).core.rack; is = refl; shape = refl }
 
-steps_lived : (settings : Settings) (o : Option Query) (s : State) (heard : Option Answer) (label : Label) (new : State) → StepsFor o settings s heard label new → IsLived settings s
+pub steps_lived : (settings : Settings) (o : Option Query) (s : State) (heard : Option Answer) (label : Label) (new : State) → StepsFor o settings s heard label new → IsLived settings s
     → IsLived settings new
 steps_lived settings o s heard label new steps h =
     let (next, goes, related) = live_free settings o h.free s heard label new (related_of settings s h) steps in

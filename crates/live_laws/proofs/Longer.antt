@@ -45,7 +45,7 @@ line_too text more line rest h =
       line_is = (
         h.line_is.0 ∙ sym (take-append-le (feed_at text) text more (omega arith)) ∙ ap (λ (n : ℕ). take n (text ++ more)) (sym same),
         ap (option_map (with_more more)) h.line_is.1
-        ∙ ap (λ (t : Text). Some t) (sym (drop-append-le (feed_at text + 1) text more (omega arith)) ∙ ap (λ (n : ℕ). drop (n + 1) (text ++ more)) (sym same)),
+            ∙ ap (λ (t : Text). Some t) (sym (drop-append-le (feed_at text + 1) text more (omega arith)) ∙ ap (λ (n : ℕ). drop (n + 1) (text ++ more)) (sym same)),
       );
     }
 

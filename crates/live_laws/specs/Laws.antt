@@ -16,7 +16,7 @@ use Rattle.live_model.specs.Lives.{Lives}
 use Rattle.live_model.specs.Outputs.{Acts, AnswersEnd, BadLine, Done, Ended, Leads, LiveOutput, Place, Told, end_line, stand_of}
 use Rattle.live_model.specs.Outputs as live
 use Rattle.live_laws.specs.Notes.{without_notes}
-use Rattle.live_laws.specs.Scripts.{HasNoClients, end_of}
+use Rattle.live_laws.specs.Scripts.{HasNoClients, IsWhole, end_of}
 use Rattle.live_laws.specs.Talks.{AsksCameFirst}
 
 -- The law: for a script and answers one output is written, in one way does the run end, and one script was lived.
@@ -24,6 +24,12 @@ abbrev pub OneLiveOutputLaw : Type 0
 OneLiveOutputLaw =
     (lives : Lives) (settings : Settings) (kinds : List DriverKind) (script : Trace) (answers a b : Text) (x y : Ended) (m n : Trace)
     → LiveOutput lives settings kinds script answers a x m → LiveOutput lives settings kinds script answers b y n → (a ≡ b) × (x ≡ y) × (m ≡ n)
+
+-- The law: and there is one. A live run over a script that was read whole comes to an end, whatever the answers are.
+abbrev pub EachHasALiveOutputLaw : Type 0
+EachHasALiveOutputLaw =
+    (lives : Lives) (settings : Settings) (kinds : List DriverKind) (script : Trace) (answers : Text) → IsWhole script
+    → (out : Text) × (ended : Ended) × (then_lived : Trace) × LiveOutput lives settings kinds script answers out ended then_lived
 
 -- what a machine writes by the books, whose run came to the end of the script as it was given
 pub record IsByBooks (settings : Settings) (kinds : List DriverKind) (script : Trace) (out : Text) (ended : Ended) (then_lived : Trace) : Type 0 where

@@ -17,3 +17,10 @@ end_of (gives number event rest) = end_of rest
 end_of ends = Some Done
 end_of (stops number) = Some BadLine
 end_of waits = None
+
+-- it was read to its end, and no more bytes are waited for
+abbrev pub IsWhole : Trace → Type 0
+IsWhole (gives number event rest) = IsWhole rest
+IsWhole ends = Unit {0}
+IsWhole (stops number) = Unit {0}
+IsWhole waits = ⊥

@@ -1,11 +1,16 @@
 //! What holds of each live run.
 
-ghost use Rattle.live_laws.specs.Laws.{AsksComeFirstLaw, EachLiveOutputIsARunLaw, EachLiveStateIsLivedLaw, FrontsLaw};
+ghost use Rattle.live_laws.specs.Laws.{AsksComeFirstLaw, EachHasALiveOutputLaw, EachLiveOutputIsARunLaw, EachLiveStateIsLivedLaw, FrontsLaw};
 ghost use Rattle.live_laws.specs.Laws.{LivedStatesAreOfRunsLaw, NobodyAskedLaw, NobodyLiveLaw, OneLiveOutputLaw};
 
 /// For a script and answers there is one output, one end, and one script that was lived.
 pub fn one_live_output()
     ensures { OneLiveOutputLaw }
+{}
+
+/// And there is one: a live run over a script that was read whole comes to an end, whatever the answers are.
+pub fn each_has_a_live_output()
+    ensures { EachHasALiveOutputLaw }
 {}
 
 /// Where no driver is live, the output is the one that the machine prints by the books.
