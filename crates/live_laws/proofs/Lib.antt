@@ -10,3 +10,4 @@ pub mod AsksFirst
 pub mod AreRuns
 pub mod LivedStates
 pub mod Ending
+pub mod Pasts

@@ -1,5 +1,5 @@
 -- What holds of each live run.
-use Rattle.std.specs.Prelude.{ℕ, ◌≡◌, ◌⊎◌, List, [], ◌++◌, Some}
+use Rattle.std.specs.Prelude.{ℕ, ◌≡◌, ◌⊎◌, List, [], ◌++◌, Option, Some}
 use Rattle.live_io.specs.Turns.{Past}
 use Rattle.pnp_labels.specs.Texts.{Text}
 use Rattle.pnp_labels.specs.declared.words.DriverKind.{DriverKind}
@@ -11,6 +11,7 @@ use Rattle.script_reader.specs.Script.{Trace}
 use Rattle.free_model.specs.Checks.{IsYes, beginning}
 use Rattle.free_model.specs.Frees.{free_opening, with_rack}
 use Rattle.free_model.specs.Outputs.{MachinePrints, end_text}
+use Rattle.live_model.specs.Fronts.{HasLived}
 use Rattle.live_model.specs.Lived.{IsLived}
 use Rattle.live_model.specs.Lives.{Lives}
 use Rattle.live_model.specs.Outputs.{Acts, AnswersEnd, BadLine, Done, Ended, Leads, LiveOutput, Place, Told, end_line, stand_of}
@@ -97,3 +98,10 @@ pub record IsButBooks (settings : Settings) (s : State) : Type 0 where
 -- The law: so, but for books, it is a state of a run by the books. What is proved of nodes, relations and labels in all these holds in it too.
 abbrev pub LivedStatesAreOfRunsLaw : Type 0
 LivedStatesAreOfRunsLaw = (settings : Settings) (s : State) → IsLived settings s → IsButBooks settings s
+
+-- The law: what was said before a run began, as when the other side was greeted, changes nothing: what was written is a live output.
+abbrev pub LivedIsAnOutputLaw : Type 0
+LivedIsAnOutputLaw =
+    (lives : Lives) (settings : Settings) (kinds : List DriverKind) (script : Trace) (t : Told) (answers out : Text) (ended : Ended) (past : Option Past)
+    → t.asks ≡ 0 → t.taken ≡ Some [] → t.answers ≡ Some answers → HasLived lives settings (live.beginning (free_opening kinds) t script) ended past (Some out)
+    → (then_lived : Trace) × LiveOutput lives settings kinds script answers out ended then_lived

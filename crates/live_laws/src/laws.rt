@@ -1,7 +1,7 @@
 //! What holds of each live run.
 
 ghost use Rattle.live_laws.specs.Laws.{AsksComeFirstLaw, EachHasALiveOutputLaw, EachLiveOutputIsARunLaw, EachLiveStateIsLivedLaw, FrontsLaw};
-ghost use Rattle.live_laws.specs.Laws.{LivedStatesAreOfRunsLaw, NobodyAskedLaw, NobodyLiveLaw, OneLiveOutputLaw};
+ghost use Rattle.live_laws.specs.Laws.{LivedIsAnOutputLaw, LivedStatesAreOfRunsLaw, NobodyAskedLaw, NobodyLiveLaw, OneLiveOutputLaw};
 
 /// For a script and answers there is one output, one end, and one script that was lived.
 pub fn one_live_output()
@@ -47,4 +47,9 @@ pub fn each_live_state_is_lived()
 /// So, but for books, it is a state of a run by the books.
 pub fn lived_states_are_of_runs()
     ensures { LivedStatesAreOfRunsLaw }
+{}
+
+/// What was said before a run began, as when the other side was greeted, changes nothing: what was written is a live output.
+pub fn lived_is_an_output()
+    ensures { LivedIsAnOutputLaw }
 {}
