@@ -1,21 +1,19 @@
 -- What a live run writes is, but for its notes, a run of the script as it was lived.
-use Rattle.std.proofs.Common.{ℕ, zero, suc, ◌+◌, ◌≡◌, ◌⊎◌, inl, inr, Bool, true, false, not, List, [], ◌∷◌, ◌++◌, map, Option, Some, None, option_map, refl, sym, ap, ◌∙◌, subst, if◌then◌else◌}
-use Rattle.std.proofs.lemmas.List.{append_assoc, append-nil}
+use Rattle.std.proofs.Common.{ℕ, ◌+◌, ◌≡◌, ◌⊎◌, inl, inr, Bool, true, false, not, List, [], ◌∷◌, ◌++◌, Option, Some, None, option_map, refl, sym, ap, ◌∙◌, subst, if◌then◌else◌}
+use Rattle.std.proofs.lemmas.List.{append_assoc}
 use Rattle.std.proofs.lemmas.List.Elements.{filter-append}
 use Rattle.pnp_labels.specs.Texts.{Text, label_line}
 use Rattle.pnp_labels.specs.declared.event.Event.{Event}
 use Rattle.pnp_labels.specs.declared.label.Label.{Label}
-use Rattle.pnp_labels.specs.declared.states.DevState.{DevState}
 use Rattle.pnp_labels.specs.declared.words.Answer.{Answer}
 use Rattle.pnp_model.specs.Books.{name_of}
 use Rattle.pnp_model.specs.Endings.{ending, joined}
 use Rattle.pnp_model.specs.Events.{happens}
-use Rattle.pnp_model.specs.Machine.{IsQuiet, Steps}
-use Rattle.pnp_model.specs.Records.{Driver, Settings, State, Step}
+use Rattle.pnp_model.specs.Machine.{IsQuiet}
+use Rattle.pnp_model.specs.Records.{Settings, State}
 use Rattle.script_reader.specs.Reading.{give_all}
-use Rattle.script_reader.specs.Script.{Trace, gives, waits, ends, stops}
+use Rattle.script_reader.specs.Script.{Trace, gives, ends, stops}
 use Rattle.script_reader.specs.declared.line.Line as lines
-use Rattle.free_model.specs.Asks.{Query}
 use Rattle.free_model.specs.Checks.{AllowsFirst, Ends, Follow, IsOfMachine, IsYes, Runs, bad_line, end_bytes}
 use Rattle.free_model.specs.Frees.{FreeSteps, free_opening}
 use Rattle.free_model.specs.Outputs.{end_text, error_line}
@@ -27,7 +25,7 @@ use Rattle.live_model.specs.Notes.{ask_line, broke_lines, done_line, poll_words,
 use Rattle.live_model.specs.Outputs.{Acts, Ask, Asks, AsksPoll, AsksProbe, AsksStep, BadLine, Done, Ended, Goes, IsOver, Leads, Place, Probes, Rests, Stand, behind_line, completion, happening, labelled, lived, with_more}
 use Rattle.live_model.specs.Outputs as live
 use Rattle.live_model.specs.Trails.{drivers_of}
-use Rattle.live_laws.specs.Laws.{EachLiveOutputIsARunLaw, IsRunButNotes}
+use Rattle.live_laws.specs.Laws.{EachLiveOutputIsARunLaw}
 use Rattle.live_laws.specs.Notes.{is_note, without_notes}
 use Rattle.live_laws.specs.Scripts.{HasNoClients}
 use Rattle.live_laws.proofs.Books.{happened_too, live_free, quiet_too}

@@ -1,13 +1,12 @@
 -- In the turn of a number all was said up to the ask of this number, and then a line was heard.
-use Rattle.std.proofs.Common.{ℕ, zero, suc, ◌+◌, ◌≡◌, Bool, true, false, List, [], ◌∷◌, ◌++◌, Option, Some, None, option_map, length, take, drop, refl, sym, ap, ◌∙◌, subst, arith, if◌then◌else◌}
+use Rattle.std.proofs.Common.{ℕ, suc, ◌+◌, ◌≡◌, Bool, true, false, List, [], ◌∷◌, ◌++◌, Option, Some, None, option_map, length, drop, refl, sym, ap, ◌∙◌, subst, arith, if◌then◌else◌}
 use Rattle.std.specs.List.{filter}
 use Rattle.std.proofs.lemmas.List.{append_assoc, append-nil, length-append}
 use Rattle.std.proofs.lemmas.List.Elements.{filter-append}
 use Rattle.live_io.specs.Turns.{Hears, HearsOf, Past, Turn, feed_at, with_said}
-use Rattle.live_io.specs.declared.peer.Heard.TheVariants.{Line, LongLine, Over}
+use Rattle.live_io.specs.declared.peer.Heard.TheVariants.{Line}
 use Rattle.pnp_labels.specs.Texts.{Text, label_line}
 use Rattle.pnp_labels.specs.declared.label.Label.{Label}
-use Rattle.pnp_labels.specs.declared.states.DevState.{DevState}
 use Rattle.pnp_model.specs.Books.{name_of}
 use Rattle.pnp_model.specs.Endings.{joined}
 use Rattle.pnp_model.specs.Events.{happens}
@@ -21,7 +20,7 @@ use Rattle.live_model.specs.Outputs as live
 use Rattle.live_model.specs.Trails.{drivers_of}
 use Rattle.live_laws.specs.Laws.{AsksComeFirstLaw}
 use Rattle.live_laws.specs.Notes.{is_ask}
-use Rattle.live_laws.specs.Talks.{AsksCameFirst, AsksFrom, EndsWithAsk, heard_in, heard_line, said_in}
+use Rattle.live_laws.specs.Talks.{AsksFrom, EndsWithAsk, heard_in, heard_line, said_in}
 use Rattle.live_laws.proofs.Feeds.{line_apart}
 use Rattle.live_laws.proofs.Pieces.{Notes, broke_notes, done_notes, label_asks, probe_notes}
 

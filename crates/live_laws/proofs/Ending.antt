@@ -1,5 +1,5 @@
 -- A live run comes to an end, whatever the answers are.
-use Rattle.std.proofs.Common.{ℕ, zero, suc, ◌+◌, ◌<◌, ◌≤◌, ◌≡◌, ◌⊎◌, inl, inr, Bool, true, false, List, [], ◌∷◌, ◌++◌, length, take, drop, Option, Some, None, is_some, option_map, refl, sym, ap, ◌∙◌, subst, arith, if◌then◌else◌}
+use Rattle.std.proofs.Common.{ℕ, zero, suc, ◌+◌, ◌<◌, ◌≤◌, ◌≡◌, ◌⊎◌, inl, inr, Bool, true, false, List, [], ◌∷◌, length, take, drop, Option, Some, None, is_some, refl, sym, ap, ◌∙◌, subst, arith, if◌then◌else◌}
 use Rattle.std.specs.Prelude.{nat_le, nat_lt}
 use Rattle.std.proofs.lemmas.List.{length-drop}
 use mathlib.Core.WellFounded.{fix}
@@ -17,12 +17,11 @@ use Rattle.pnp_laws.proofs.RunsEnd.{Lowest, lowest_step}
 use Rattle.pnp_laws.proofs.RunsStand.{reaches_kept}
 use Rattle.pnp_model.specs.Books.{name_of}
 use Rattle.pnp_model.specs.Events.{happens}
-use Rattle.pnp_model.specs.Machine.{IsQuiet, IsStep, Steps, next}
+use Rattle.pnp_model.specs.Machine.{IsQuiet, IsStep, next}
 use Rattle.pnp_model.specs.Records.{Doing, Settings, State, Step}
 use Rattle.pnp_model.specs.Records.Doing.{Does, Searches}
 use Rattle.pnp_model.specs.Runs.Entry.{Did}
 use Rattle.script_reader.specs.Script.{Trace, gives, waits, ends, stops}
-use Rattle.script_reader.specs.declared.line.Line as lines
 use Rattle.free_model.specs.Asks.{Query, next_query}
 use Rattle.free_model.specs.Frees.{StepsBy, free_opening, told, with_rack}
 use Rattle.free_model.specs.Runs.{without_teaching}

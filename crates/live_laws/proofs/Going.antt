@@ -1,7 +1,7 @@
 -- From a place of a live run there is one way, which is computed here.
-use Rattle.std.proofs.Common.{ℕ, ◌+◌, ◌≡◌, Bool, true, false, List, [], ◌∷◌, ◌++◌, Option, Some, None, is_some, option_map, take, drop, refl, sym, ap, ◌∙◌, subst}
+use Rattle.std.proofs.Common.{◌+◌, ◌≡◌, Bool, true, false, List, [], ◌∷◌, ◌++◌, Option, Some, None, is_some, option_map, take, drop, refl, sym, ap, ◌∙◌}
 use Rattle.resource_reqs.proofs.Answering.{answer_one}
-use Rattle.live_io.specs.Turns.{Hears, HearsOf, feed_at, heard_of}
+use Rattle.live_io.specs.Turns.{Hears, feed_at, heard_of}
 use Rattle.live_io.specs.declared.peer.Heard.{Heard}
 use Rattle.live_io.specs.declared.peer.Heard.TheVariants.{Line, LongLine, Over}
 use Rattle.pnp_labels.specs.Texts.{Text}
@@ -11,17 +11,16 @@ use Rattle.pnp_labels.specs.declared.words.Answer.{Answer}
 use Rattle.pnp_laws.proofs.AnswerThere.{answer_some}
 use Rattle.pnp_model.specs.Books.{name_of}
 use Rattle.pnp_model.specs.Events.{happens}
-use Rattle.pnp_model.specs.Machine.{IsQuiet, IsStep, Steps, next}
+use Rattle.pnp_model.specs.Machine.{IsQuiet, IsStep, next}
 use Rattle.pnp_model.specs.Records.{Doing, Driver, Settings, State, Step}
 use Rattle.pnp_model.specs.Records.Doing.{Does, Searches}
 use Rattle.script_reader.specs.Script.{Trace, gives, waits, ends, stops}
-use Rattle.script_reader.specs.declared.line.Line as lines
-use Rattle.free_model.specs.Asks.{Query, next_query}
-use Rattle.free_model.specs.Frees.{StepsBy, told, with_rack}
+use Rattle.free_model.specs.Asks.{Query}
+use Rattle.free_model.specs.Frees.{told, with_rack}
 use Rattle.free_model.specs.Outputs.{end_text, error_line}
 use Rattle.free_model.proofs.AskSteps.{quiet_asks_nobody}
 use Rattle.live_model.specs.Answers.{Completion, Polled, nothing, completes, Reply, polled_in, reply_in}
-use Rattle.live_model.specs.Lives.{Lives, LiveSteps, StepsFor, live_if, live_query}
+use Rattle.live_model.specs.Lives.{Lives, StepsFor, live_if, live_query}
 use Rattle.live_model.specs.Notes.{broke_lines, done_line, may_pend, poll_words, probe_lines, probe_words, query_words}
 use Rattle.live_model.specs.Outputs.{Acts, Ask, Asks, AsksPoll, AsksProbe, AsksStep, Ended, AnswersBad, AnswersEnd, BadLine, Done, Goes, IsOver, Leads, Place, Probes, Rests, Stand, Told}
 use Rattle.live_model.specs.Outputs.{asking, bad_line, behind_line, completion, end_line, happening, hearing, hears, is_answer, is_polled, labelled, saying, says, stand_of, unheard}

@@ -1,24 +1,23 @@
 -- But for books, each state of a live run is one of a run of the machine.
-use Rattle.std.proofs.Common.{ℕ, ◌<◌, ◌≤◌, ◌≡◌, Bool, true, false, List, [], ◌∷◌, ◌++◌, map, Option, Some, None, find, refl, sym, ap, ◌∙◌, subst, arith, if◌then◌else◌}
+use Rattle.std.proofs.Common.{ℕ, ◌≡◌, Bool, true, false, List, [], ◌∷◌, ◌++◌, Option, Some, None, find, refl, ap, subst, arith, if◌then◌else◌}
 use Rattle.std.proofs.lemmas.Bool.Decides.{nat_tests}
 use Rattle.std.proofs.lemmas.Slice.Eq.{bytes_eq-Decides}
 use Rattle.device_ids.specs.Folding.{folded, same}
 use Rattle.pnp_labels.specs.Texts.{Text}
 use Rattle.pnp_labels.specs.declared.event.Event.{Event}
 use Rattle.pnp_labels.specs.declared.label.Label.{Label}
-use Rattle.pnp_labels.specs.declared.states.DevState.{DevState}
 use Rattle.pnp_labels.specs.declared.words.Answer.{Answer}
 use Rattle.pnp_labels.specs.declared.words.AskWhat.{AskWhat}
 use Rattle.pnp_labels.specs.declared.words.DriverKind.{DriverKind}
 use Rattle.pnp_laws.specs.Kept.{Serials}
-use Rattle.pnp_laws.specs.Keys.{FoldedApart, Keyed}
-use Rattle.pnp_laws.proofs.Lookups.{find_passes, node_found, own_serial, some_same}
+use Rattle.pnp_laws.specs.Keys.{FoldedApart}
+use Rattle.pnp_laws.proofs.Lookups.{find_passes, node_found, some_same}
 use Rattle.pnp_laws.proofs.RunsStacks.{keyed}
 use Rattle.pnp_model.specs.Cores.{node_at}
 use Rattle.pnp_model.specs.Events.{happens}
 use Rattle.pnp_model.specs.Laws.{Reaches}
 use Rattle.pnp_model.specs.Machine.{IsQuiet, Steps}
-use Rattle.pnp_model.specs.Records.{Driver, Node, Settings, State}
+use Rattle.pnp_model.specs.Records.{Node, Settings, State}
 use Rattle.pnp_model.specs.Runs.{Entry}
 use Rattle.pnp_model.specs.Runs.Entry.{Did, Happens}
 use Rattle.pnp_model.specs.States.{node_of}
@@ -32,7 +31,7 @@ use Rattle.live_model.specs.Lives.{Lives, StepsFor, live_query}
 use Rattle.live_model.specs.Outputs.{Acts, Ask, Asks, AsksPoll, AsksProbe, AsksStep, Goes, IsOver, Leads, Place, Probes, Rests, Stand, behind_line, completion, labelled, stand_of}
 use Rattle.live_model.specs.Outputs as live
 use Rattle.live_model.specs.Trails.{drivers_of}
-use Rattle.live_laws.specs.Laws.{EachLiveStateIsLivedLaw, IsButBooks, LivedStatesAreOfRunsLaw}
+use Rattle.live_laws.specs.Laws.{EachLiveStateIsLivedLaw, LivedStatesAreOfRunsLaw}
 use Rattle.live_laws.proofs.Books.{happened_too, live_free, quiet_too}
 
 -- One state, then the next -------------------------------------------------------------------

@@ -1,14 +1,11 @@
 -- What more answers change: nothing up to where the answers ended.
-use Rattle.std.proofs.Common.{ℕ, zero, suc, ◌+◌, ◌-◌, ◌<◌, ◌≤◌, ◌≡◌, ◌==◌, ◌⊎◌, inl, inr, Bool, true, false, not, List, [], ◌∷◌, ◌++◌, Option, Some, None, is_some, option_map, length, take, drop, position, refl, sym, ap, ◌∙◌, subst, arith, cond, if◌then◌else◌}
-use Rattle.std.specs.Prelude.{nat_le, nat_lt, unwrap_or}
-use Rattle.std.specs.List.{position_or_len}
-use Rattle.std.proofs.lemmas.List.{append_assoc, drop-append-le, length-append, take-append-le}
-use Rattle.live_io.specs.Turns.{Hears, HearsOf, feed_at, heard_by, heard_of}
-use Rattle.live_io.specs.declared.peer.Heard.{Heard}
+use Rattle.std.proofs.Common.{ℕ, ◌+◌, ◌<◌, ◌≤◌, ◌≡◌, ◌⊎◌, inl, inr, Bool, true, false, ◌++◌, Option, Some, None, option_map, length, take, drop, refl, sym, ap, ◌∙◌, subst, arith, if◌then◌else◌}
+use Rattle.std.specs.Prelude.{nat_le, nat_lt}
+use Rattle.std.proofs.lemmas.List.{drop-append-le, length-append, take-append-le}
+use Rattle.live_io.specs.Turns.{Hears, HearsOf, feed_at, heard_by}
 use Rattle.live_io.specs.declared.peer.Heard.TheVariants.{Line, LongLine, Over}
 use Rattle.pnp_labels.specs.Texts.{Text}
 use Rattle.pnp_labels.specs.declared.label.Label.{Label}
-use Rattle.pnp_labels.specs.declared.states.DevState.{DevState}
 use Rattle.pnp_model.specs.Records.{Settings}
 use Rattle.script_reader.specs.Script.{Trace}
 use Rattle.free_model.specs.Frees.{free_opening}
@@ -20,7 +17,7 @@ use Rattle.live_laws.specs.Laws.{FrontsLaw, GoesOn}
 use Rattle.live_laws.proofs.OneOutput.{ends_there, goes_told, leads_one, leads_through}
 use Rattle.live_laws.proofs.Feeds.{above, above_too, below, below_too, feed, feed_grows, feed_is, feed_stays, is_line, is_long}
 use Rattle.live_laws.proofs.Going.{goes_to, is_heard}
-use Rattle.live_laws.proofs.Saying.{Says, leads_says}
+use Rattle.live_laws.proofs.Saying.{leads_says}
 
 -- Lines ----------------------------------------------------------------------------------------
 

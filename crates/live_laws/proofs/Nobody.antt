@@ -1,7 +1,7 @@
 -- A live run in which nobody is asked is one of the machine by the books.
-use Rattle.std.proofs.Common.{ℕ, zero, suc, ◌+◌, ◌≤◌, ◌≡◌, Bool, true, false, not, List, [], ◌∷◌, ◌++◌, map, Option, Some, None, option_map, find, refl, sym, ap, ◌∙◌, subst, arith, if◌then◌else◌}
-use Rattle.std.specs.List.{filter, list_any}
-use Rattle.std.proofs.lemmas.List.{append_assoc, append-nil}
+use Rattle.std.proofs.Common.{ℕ, ◌≤◌, ◌≡◌, Bool, true, false, List, [], ◌∷◌, ◌++◌, Option, Some, None, option_map, refl, sym, ap, ◌∙◌, subst, arith, if◌then◌else◌}
+use Rattle.std.specs.List.{list_any}
+use Rattle.std.proofs.lemmas.List.{append_assoc}
 use Rattle.device_ids.specs.Folding.{same}
 use Rattle.pnp_labels.specs.Texts.{Text, label_line}
 use Rattle.pnp_labels.specs.declared.deed.Deed.{Deed}
@@ -14,17 +14,17 @@ use Rattle.pnp_model.specs.Events.{happens}
 use Rattle.pnp_model.specs.Machine.{IsQuiet, IsStep, Steps}
 use Rattle.pnp_model.specs.Records.{Doing, Driver, Settings, State, Step}
 use Rattle.script_reader.specs.Reading.{give_all}
-use Rattle.script_reader.specs.Script.{Trace, gives, waits, ends, stops}
+use Rattle.script_reader.specs.Script.{Trace, gives}
 use Rattle.script_reader.specs.declared.line.Line as lines
 use Rattle.free_model.specs.Asks.{Query, next_query}
 use Rattle.free_model.specs.Outputs.{Follows, MachinePrints, Settles, end_text, error_line, text_of}
 use Rattle.live_model.specs.Lives.{Lives, StepsFor, is_live, live_if, live_query}
 use Rattle.live_model.specs.Outputs.{Acts, Ask, Asks, Ended, Goes, IsOver, Leads, Place, Probes, Rests, Stand, Told, behind_line, labelled, lived, stand_of, with_more}
 use Rattle.live_model.specs.Outputs as live
-use Rattle.live_model.specs.Trails.{Trail, Waiting, attach, drivers_of, follow, no_trail, wait}
-use Rattle.live_laws.specs.Laws.{IsByBooks, NobodyAskedLaw, NobodyLiveLaw}
+use Rattle.live_model.specs.Trails.{Trail, drivers_of, follow, no_trail}
+use Rattle.live_laws.specs.Laws.{NobodyAskedLaw, NobodyLiveLaw}
 use Rattle.live_laws.specs.Scripts.{HasNoClients, end_of}
-use Rattle.live_laws.proofs.Saying.{asks_at, leads_asks, more_more, no_more}
+use Rattle.live_laws.proofs.Saying.{asks_at, leads_asks, more_more}
 
 -- What is printed ----------------------------------------------------------------------------
 

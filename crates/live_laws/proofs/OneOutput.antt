@@ -1,13 +1,10 @@
 -- A live run has one output.
-use Rattle.std.proofs.Common.{ℕ, ◌≡◌, Bool, true, false, List, [], ◌∷◌, ◌++◌, Option, Some, None, is_some, option_map, refl, sym, ap, ◌∙◌, subst, if◌then◌else◌}
+use Rattle.std.proofs.Common.{◌≡◌, Bool, true, false, Option, Some, None, is_some, refl, sym, ap, ◌∙◌, subst, if◌then◌else◌}
 use Rattle.live_io.specs.Turns.{Hears}
-use Rattle.live_io.specs.declared.peer.Heard.TheVariants.{Line, LongLine, Over}
+use Rattle.live_io.specs.declared.peer.Heard.TheVariants.{Line}
 use Rattle.pnp_labels.specs.Texts.{Text}
 use Rattle.pnp_labels.specs.declared.label.Label.{Label}
-use Rattle.pnp_labels.specs.declared.states.DevState.{DevState}
-use Rattle.pnp_labels.specs.declared.words.DriverKind.{DriverKind}
 use Rattle.pnp_model.specs.Records.{Settings}
-use Rattle.script_reader.specs.Script.{Trace}
 use Rattle.live_model.specs.Lives.{Lives}
 use Rattle.live_model.specs.Outputs.{Acts, Ended, Goes, IsOver, Leads, LiveOutput, Place, Probes, Stand, behind_line, lived, stand_of}
 use Rattle.live_model.specs.Outputs as live

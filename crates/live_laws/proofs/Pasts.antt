@@ -1,17 +1,13 @@
 -- What was said before a live run began changes nothing of it.
-use Rattle.std.proofs.Common.{ℕ, ◌+◌, ◌≡◌, Bool, true, false, List, [], ◌∷◌, ◌++◌, Option, Some, None, option_map, refl, sym, ap, ◌∙◌, subst, if◌then◌else◌}
-use Rattle.live_io.specs.Turns.{Hears, Past, with_said}
+use Rattle.std.proofs.Common.{ℕ, ◌+◌, ◌≡◌, Bool, true, false, [], ◌∷◌, ◌++◌, Option, Some, None, option_map, refl, sym, ap, ◌∙◌, subst, if◌then◌else◌}
+use Rattle.live_io.specs.Turns.{Past, with_said}
 use Rattle.pnp_labels.specs.Texts.{Text, label_line}
 use Rattle.pnp_labels.specs.declared.label.Label.{Label}
-use Rattle.pnp_labels.specs.declared.states.DevState.{DevState}
-use Rattle.pnp_labels.specs.declared.words.DriverKind.{DriverKind}
 use Rattle.pnp_model.specs.Books.{name_of}
 use Rattle.pnp_model.specs.Events.{happens}
 use Rattle.pnp_model.specs.Records.{Settings}
-use Rattle.script_reader.specs.Script.{Trace}
 use Rattle.free_model.specs.Frees.{free_opening}
 use Rattle.free_model.specs.Outputs.{end_text, error_line}
-use Rattle.live_model.specs.Fronts.{HasLived}
 use Rattle.live_model.specs.Lives.{Lives}
 use Rattle.live_model.specs.Notes.{ask_line, broke_lines, done_line, poll_words, probe_lines, probe_words, query_words}
 use Rattle.live_model.specs.Outputs.{Acts, Ask, Asks, AsksPoll, AsksProbe, AsksStep, Ended, Goes, IsOver, Leads, LiveOutput, Place, Probes, Rests, Stand, Told, behind_line, completion, is_answer, turned}

@@ -1,5 +1,5 @@
 -- Texts that are lines: which of these are notes, and which are asks.
-use Rattle.std.proofs.Common.{ℕ, zero, suc, ◌+◌, ◌≡◌, ◌==◌, ◌&&◌, Bool, true, false, not, List, [], ◌∷◌, ◌++◌, map, codes, cond, refl, sym, ap, ◌∙◌, subst, if◌then◌else◌}
+use Rattle.std.proofs.Common.{ℕ, ◌≡◌, Bool, true, false, not, List, [], ◌∷◌, ◌++◌, codes, refl, sym, ap, ◌∙◌, if◌then◌else◌}
 use Rattle.std.specs.Fmt.{decimal}
 use Rattle.std.specs.List.{filter}
 use Rattle.std.proofs.lemmas.List.Elements.{filter-append}
@@ -10,7 +10,7 @@ use Rattle.pnp_labels.specs.declared.words.Answer.{Answer}
 use Rattle.pnp_labels.specs.declared.words.Minor.{Minor}
 use Rattle.pnp_model.specs.Endings.{joined}
 use Rattle.free_model.proofs.Outs.{joined_on}
-use Rattle.live_model.specs.Notes.{ask_line, broke_line, broke_lines, done_line, fits, misfit_tag, probe_lines}
+use Rattle.live_model.specs.Notes.{broke_line, broke_lines, done_line, fits, misfit_tag, probe_lines}
 use Rattle.live_laws.specs.Notes.{is_ask, is_note, without_notes}
 
 -- lines that are notes, and none of them an ask

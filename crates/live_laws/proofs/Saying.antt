@@ -1,14 +1,13 @@
 -- What is said stays said, and no ask is taken back.
-use Rattle.std.proofs.Common.{ℕ, zero, suc, ◌+◌, ◌≤◌, ◌≡◌, Bool, true, false, List, [], ◌∷◌, ◌++◌, Option, Some, None, option_map, refl, sym, ap, ◌∙◌, subst, arith}
+use Rattle.std.proofs.Common.{ℕ, ◌+◌, ◌≤◌, ◌≡◌, [], ◌∷◌, ◌++◌, Option, Some, None, option_map, refl, sym, ap, ◌∙◌, subst, arith}
 use Rattle.std.proofs.lemmas.List.{append_assoc, append-nil}
 use Rattle.pnp_labels.specs.Texts.{Text, label_line}
 use Rattle.pnp_labels.specs.declared.label.Label.{Label}
 use Rattle.pnp_model.specs.Books.{name_of}
 use Rattle.pnp_model.specs.Events.{happens}
 use Rattle.pnp_model.specs.Records.{Settings}
-use Rattle.free_model.specs.Outputs.{end_text, error_line}
 use Rattle.live_model.specs.Lives.{Lives}
-use Rattle.live_model.specs.Notes.{ask_line, broke_lines, done_line, poll_words, probe_lines, probe_words, query_words}
+use Rattle.live_model.specs.Notes.{broke_lines, done_line}
 use Rattle.live_model.specs.Outputs.{Goes, Leads, Place, Stand, Told, bad_line, behind_line, completion, end_line, stand_of, with_more}
 use Rattle.live_model.specs.Outputs as live
 use Rattle.live_laws.proofs.OneOutput.{at_behind}

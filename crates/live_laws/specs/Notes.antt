@@ -1,5 +1,5 @@
 -- Which lines of an output are notes, and which of these are asks.
-use Rattle.std.specs.Prelude.{ℕ, ◌==◌, Bool, true, false, ◌&&◌, not, List, [], ◌∷◌, codes}
+use Rattle.std.specs.Prelude.{◌==◌, Bool, true, false, ◌&&◌, not, List, [], ◌∷◌, codes}
 use Rattle.std.specs.List.{filter}
 use Rattle.pnp_labels.specs.Texts.{Text}
 
