@@ -1,2 +1,5 @@
 mod Asking
 mod Faults
+mod Machines
+mod Scripts
+mod Outcomes

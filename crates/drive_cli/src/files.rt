@@ -1,8 +1,9 @@
 //! The files that the words name.
-ghost use Rattle.std.specs.Prelude.{◌≡◌, ◌≤◌, ◌++◌, ◌∷◌, [], ℕ, List, IfOk, OnOk, IsErrOf, length};
+ghost use Rattle.std.specs.Prelude.{◌≡◌, ◌≤◌, ◌++◌, ◌∷◌, [], ℕ, List, IfOk, Ok, OnOk, IsErrOf, length};
 ghost use Rattle.pnp_io.specs.Outside.{Holds, Rose};
-ghost use Rattle.drive_cli.specs.declared.fault.DriveFault.TheVariants.{ReadFault};
-ghost use Rattle.drive_cli.specs.Files.{SomeRose};
+ghost use Rattle.drive_cli.specs.declared.fault.DriveFault.TheVariants.{BadWords, Client, ReadFault};
+ghost use Rattle.inf_reader.specs.Meaning.{inf};
+ghost use Rattle.drive_cli.specs.Files.{AreRead, SomeRose, texts};
 
 use crate::fault::DriveFault;
 use inf_reader::{Inf, InfError, read};
@@ -20,6 +21,8 @@ pub(crate) fn read_file<F: Files>(
 ) -> Result<Vec<u8>, DriveFault>
     ensures holds { IfOk result (λ bytes. Holds (F.contents files.old) name.now bytes.items) }
     ensures within { IfOk result (λ bytes. length bytes.items ≤ 16777216) }
+    ensures words { IsErrOf result BadWords → ⊥ }
+    ensures client { IsErrOf result Client → ⊥ }
     ensures failed { IsErrOf result ReadFault → Rose (F.faults files.old name.now) (F.faults files.new name.now) }
     ensures counts { (other : List ℕ) → F.faults files.old other ≤ F.faults files.new other }
     ensures same { F.contents files.new ≡ F.contents files.old }
@@ -35,6 +38,9 @@ fn read_inf<F: Files>(
     number: u64,
     name: &[u8],
 ) -> Result<Inf, DriveFault>
+    ensures read { IfOk result (λ read. (bytes : List ℕ) × Holds (F.contents files.old) name.now bytes × (inf bytes ≡ Ok read)) }
+    ensures words { IsErrOf result BadWords → ⊥ }
+    ensures client { IsErrOf result Client → ⊥ }
     ensures failed { IsErrOf result ReadFault → Rose (F.faults files.old name.now) (F.faults files.new name.now) }
     ensures counts { (other : List ℕ) → F.faults files.old other ≤ F.faults files.new other }
     ensures same { F.contents files.new ≡ F.contents files.old }
@@ -63,6 +69,9 @@ pub(crate) fn read_infs<F: Files>(
     names: &[Vec<u8>],
 ) -> Result<Vec<Inf>, DriveFault>
     ensures as_many { IfOk result (λ infs. length infs.items ≡ length names.now) }
+    ensures read { IfOk result (λ infs. AreRead (F.contents files.old) (texts names.now) infs.items) }
+    ensures words { IsErrOf result BadWords → ⊥ }
+    ensures client { IsErrOf result Client → ⊥ }
     ensures failed { IsErrOf result ReadFault → SomeRose (F.faults files.old) (F.faults files.new) }
     ensures counts { (other : List ℕ) → F.faults files.old other ≤ F.faults files.new other }
     ensures same { F.contents files.new ≡ F.contents files.old }

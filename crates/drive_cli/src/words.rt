@@ -1,5 +1,6 @@
 //! The words of the command line.
-ghost use Rattle.std.specs.Prelude.{◌≤◌};
+ghost use Rattle.std.specs.Prelude.{◌≡◌, ◌≤◌};
+ghost use Rattle.drive_cli.specs.Runs.{budget_of};
 
 use crate::fault::DriveFault;
 use live_run::LiveDrivers;
@@ -146,7 +147,8 @@ impl Words {
 
     /// How many places a search may try.
     pub(crate) fn budget(&self) -> u64
-        ensures { result ≤ 1000000 }
+        ensures at_most { result ≤ 1000000 }
+        ensures budget { result ≡ budget_of self.now.budget }
     {
         self.budget.unwrap_or(BUDGET).min(MOST_BUDGET)
     }

@@ -1,0 +1,70 @@
+-- What a status says, from what the calls say that led to it.
+use Rattle.std.proofs.Common.{ℕ, ◌≡◌, ◌⊎◌, inl, inr, ◌≤◌, List, [], ◌∷◌, ◌++◌, map, take, Option, Some, None, Result, Ok, Err, IfOk, OnErr, refl, sym, ap, ◌∙◌, subst, Vec, Global, arith}
+use Rattle.std.proofs.lemmas.List.{append_assoc}
+use Rattle.inf_reader.specs.Meaning.{inf}
+use Rattle.inf_reader.specs.declared.parts.Inf.{Inf}
+use Rattle.live_io.specs.Turns.{Past}
+use Rattle.pnp_io.specs.Outside.{Holds, Rose}
+use Rattle.pnp_labels.specs.Texts.{Text}
+use Rattle.pnp_model.specs.Records.{Settings}
+use Rattle.live_model.specs.Fronts.{HasBegun, HasLived}
+use Rattle.live_model.specs.Lives.{Lives}
+use Rattle.live_model.specs.Outputs.{Acts, Stand, Told}
+use Rattle.live_run.specs.Runs.{how}
+use Rattle.live_run.specs.declared.stop.DriveError.{DriveError}
+use Rattle.live_run.specs.declared.stop.Ended.{Ended}
+use Rattle.drive_cli.specs.Files.{AreRead, HoldAll, texts}
+use Rattle.drive_cli.specs.Runs.{FaultSays, HasClient, Outcome, Runs, run_status}
+use Rattle.drive_cli.specs.declared.fault.DriveFault.{DriveFault}
+use Rattle.drive_cli.specs.declared.status.Status.{Status}
+
+pub runs_of : (r : Result Ended DriveError) (lives : Lives) (told : Settings) (first : Stand) (past : Option Past) (taken : Option Text)
+    → IfOk r (λ ended. HasLived lives told first (how ended) past taken) → OnErr r (HasBegun lives told (Acts first) past taken) → Runs (run_status r) lives told first past taken
+runs_of (Ok Ended.Done) lives told first past taken h g = h
+runs_of (Ok Ended.BadLine) lives told first past taken h g = h
+runs_of (Ok Ended.AnswersEnd) lives told first past taken h g = h
+runs_of (Ok Ended.AnswersBad) lives told first past taken h g = h
+runs_of (Err DriveError.ReadFault) lives told first past taken h g = g
+runs_of (Err DriveError.WriteFault) lives told first past taken h g = g
+runs_of (Err DriveError.WantOfMemory) lives told first past taken h g = g
+runs_of (Err DriveError.TooLarge) lives told first past taken h g = g
+
+pub of_fault : (contents : Option (Text → Option Text)) (script : Text) (infs : List Text) (lives : Lives) (budget : ℕ) (t : Told) (fault : DriveFault) (status : Status) (past : Option Past) (taken : Option Text)
+    → FaultSays fault status t.past t.taken past taken → (fault ≡ DriveFault.Client → HasClient contents script) → (fault ≡ DriveFault.BadWords → ⊥)
+    → Outcome contents script infs lives budget t past taken status
+of_fault contents script infs lives budget t DriveFault.BadWords status past taken says client bad = absurd (bad refl)
+of_fault contents script infs lives budget t DriveFault.ReadFault status past taken (is, same, too) client bad =
+    subst (λ (s : Status). Outcome contents script infs lives budget t past taken s) (sym is) (Outcome.unread Status.ReadFault tt same too)
+of_fault contents script infs lives budget t DriveFault.WantOfMemory status past taken (is, same, too) client bad =
+    subst (λ (s : Status). Outcome contents script infs lives budget t past taken s) (sym is) (Outcome.unread Status.WantOfMemory tt same too)
+of_fault contents script infs lives budget t DriveFault.TooLarge status past taken (is, same, too) client bad =
+    subst (λ (s : Status). Outcome contents script infs lives budget t past taken s) (sym is) (Outcome.unread Status.TooLarge tt same too)
+of_fault contents script infs lives budget t DriveFault.Client status past taken (is, same, too) client bad =
+    subst (λ (s : Status). Outcome contents script infs lives budget t past taken s) (sym is) (Outcome.has_clients (client refl) same too)
+of_fault contents script infs lives budget t (DriveFault.Refused number error) status past taken (line, inl (is, said, appends)) client bad =
+    subst (λ (s : Status). Outcome contents script infs lives budget t past taken s) (sym is) (Outcome.refused line said appends)
+of_fault contents script infs lives budget t (DriveFault.Refused number error) status past taken (line, inr (unsaid, said, appends)) client bad = Outcome.unsaid status unsaid line said appends
+
+-- INFs that are read one after another
+
+map_on : {A B : Type 0} (f : A → B) (xs : List A) (y : A) → map f (xs ++ y ∷ []) ≡ map f xs ++ f y ∷ []
+map_on f [] y = refl
+map_on f (x ∷ xs) y = ap (λ t. f x ∷ t) (map_on f xs y)
+
+held_more : (contents : Option (Text → Option Text)) (names all : List Text) (name bytes : Text) → HoldAll contents names all → Holds contents name bytes
+    → HoldAll contents (names ++ name ∷ []) (all ++ bytes ∷ [])
+held_more None names all name bytes hold here = tt
+held_more (Some told) names all name bytes hold here =
+    map_on told names name ∙ ap (λ (t : List (Option Text)). t ++ told name ∷ []) hold ∙ ap (λ (o : Option Text). map (λ b. Some b) all ++ o ∷ []) here
+    ∙ sym (map_on (λ (b : Text). Some b) all bytes)
+
+pub are_more : (contents : Option (Text → Option Text)) (names : List Text) (infs : List Inf) (name bytes : Text) (i : Inf) → AreRead contents names infs → Holds contents name bytes → inf bytes ≡ Ok i
+    → AreRead contents (names ++ name ∷ []) (infs ++ i ∷ [])
+are_more contents names infs name bytes i h here is = record {
+  all = h.all ++ bytes ∷ [];
+  hold = held_more contents names h.all name bytes h.hold here;
+  read = map_on (λ b. inf b) h.all bytes ∙ ap (λ t. t ++ inf bytes ∷ []) h.read ∙ ap (λ r. map (λ x. Ok x) infs ++ r ∷ []) is ∙ sym (map_on (λ x. Ok x) infs i);
+}
+
+pub texts_more : (names : List (Vec ℕ Global)) (name : Vec ℕ Global) → texts (names ++ name ∷ []) ≡ texts names ++ name.items ∷ []
+texts_more names name = map_on (λ (v : Vec ℕ Global). v.items) names name

@@ -1,0 +1,4 @@
+pub mod Scripts
+pub mod Notes
+pub mod Talks
+pub mod Laws
