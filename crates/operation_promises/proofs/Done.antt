@@ -1,7 +1,6 @@
 -- What an operation has done where its last line is printed.
-use Rattle.std.proofs.Common.{ℕ, ◌≡◌, ◌≢◌, ◌⊎◌, inl, inr, Bool, true, false, List, [], ◌∷◌, Option, Some, None, refl, sym, ap, subst, ◌∙◌}
+use Rattle.std.proofs.Common.{ℕ, ◌≡◌, ◌≢◌, ◌⊎◌, inl, inr, Bool, true, false, List, [], ◌∷◌, map, Option, Some, None, refl, sym, ap, subst, ◌∙◌}
 use Rattle.std.proofs.lemmas.Bool.{cases_eq}
-use Rattle.resource_reqs.specs.Resources.{Whole}
 use Rattle.resource_reqs.specs.Spelling.Answer.{assignment, no_fit, spent}
 use Rattle.pnp_labels.specs.Texts.{Text}
 use Rattle.pnp_labels.specs.declared.event.Event.{Event}
@@ -12,12 +11,12 @@ use Rattle.pnp_labels.specs.declared.states.DevState.TheVariants.{NoStack, Surpr
 use Rattle.pnp_model.specs.Cores.{is_node, node_at, stack_of, with_problem}
 use Rattle.pnp_model.specs.Events.{answer_of, completed}
 use Rattle.pnp_model.specs.Frames.{first_node, rest}
-use Rattle.pnp_model.specs.Jobs.{JobMove}
+use Rattle.pnp_model.specs.Jobs.{JobMove, job_of}
 use Rattle.pnp_model.specs.Keyed.{changed_first, those, without_first}
 use Rattle.pnp_model.specs.Laws.{Reaches}
 use Rattle.pnp_model.specs.Machine as ma
 use Rattle.pnp_model.specs.Rebalances as re
-use Rattle.pnp_model.specs.Records.{Course, Driver, Found, Job, Node, Settings, Stage, State, Step, course_of}
+use Rattle.pnp_model.specs.Records.{Course, Driver, Found, Job, Node, Relation, Settings, Stage, State, Step, course_of}
 use Rattle.pnp_model.specs.Removals as rm
 use Rattle.pnp_model.specs.Runs.{Entry, Goes}
 use Rattle.pnp_model.specs.Runs.Entry.{Happens, Did, Declines}
@@ -30,25 +29,24 @@ use Rattle.pnp_laws.specs.Holdings.{has_plan}
 use Rattle.pnp_laws.specs.Plans.{IsPlanned, PlanKept, PlanKeptIn, StagePlan}
 use Rattle.pnp_laws.specs.Reached.{IsReached}
 use Rattle.pnp_laws.proofs.EffectsOf.{effect_goes}
-use Rattle.pnp_laws.proofs.EffectsOfOperations.{begun_work, rebalance_runs, turn_work}
+use Rattle.pnp_laws.proofs.EffectsOfOperations.{begun_work, turn_work}
 use Rattle.pnp_laws.proofs.EventChanges.{Answered, happens_outside}
 use Rattle.pnp_laws.proofs.Finishing.{head_bare}
-use Rattle.pnp_laws.proofs.IdleSteps.{MachineStep, machine_step}
 use Rattle.pnp_laws.proofs.Lists.{HeadIs, head_found, rest_has}
 use Rattle.pnp_laws.proofs.Lookups.{left_from, node_from, some_same}
 use Rattle.pnp_laws.proofs.PlansKept.{reached_is_planned}
-use Rattle.pnp_laws.proofs.Reaching.{kept, reached_on}
+use Rattle.pnp_laws.proofs.Reaching.{kept}
 use Rattle.pnp_laws.proofs.RebalanceRuns.{after_core}
 use Rattle.pnp_laws.proofs.RunsStand.{Kept, reaches_kept}
 use Rattle.pnp_laws.proofs.Stages.{OperationStep, RebalanceAct, RebalanceStep, RemovalAct, RemovalStep, operation_step, own_step}
-use Rattle.pnp_laws.proofs.Standing.{AllTold, Finishes, RemovalOrder, SurpriseOrder, SurpriseTold, kept_by, told_by}
+use Rattle.pnp_laws.proofs.Standing.{AllTold, RemovalOrder, SurpriseOrder, SurpriseTold, kept_by, told_by}
 use Rattle.pnp_laws.proofs.SurpriseSteps.{last_alone}
 use Rattle.pnp_laws.proofs.Turns.{running_good}
 use Rattle.pnp_laws.proofs.TurnsKept.{running_stage, running_told}
 use Rattle.pnp_promises.proofs.Excuses.{after_frame}
 use Rattle.pnp_promises.proofs.Lines.{lines_mean_what_they_say}
 use Rattle.pnp_promises.specs.Lines.{Ended, EndsSo}
-use Rattle.operation_promises.specs.Done.{DoneBy, EndsSayWhatWasDoneLaw, HasDone, HoldsAll, NoneDriven, NoneUp}
+use Rattle.operation_promises.specs.Done.{DoneBy, EndsSayWhatWasDoneLaw, HoldsAll, NoneDriven}
 
 fits_by : (course : Course) (p : Job) (nodes : List Node) → course_of p.kind ≡ course → OperationFits (Some p) nodes → JobFits course p nodes
 fits_by course p nodes is h = subst (λ (x : Course). JobFits x p nodes) is h
@@ -180,12 +178,17 @@ turned s _ _ nodes (Turn.finishes f k node own at none ready there) course h = a
 
 -- Each step ---------------------------------------------------------------------------------------------------------------
 
+-- a removal as it begins, before anyone is asked
+abbrev taking_in : State → Node → OpKind → Job
+taking_in s node kind =
+    record (job_of kind node) { set = leaving s.core node.serial; ejecting = map (λ (r : Relation). r.member) (those (rm.is_ejecting (leaving s.core node.serial)) s.core.relations) }
+
 begun_so_far : (s : State) (kind : OpKind) (node : Node) (nodes : List Node) → SoFarIn (course_of (begun s kind node).kind) (begun s kind node) nodes
 begun_so_far s kind node nodes = so_far_by (begun s kind node) nodes (λ e. by_kind kind (ap course_of (sym (begun_work s kind node).0) ∙ e))
   where
     by_kind : (own : OpKind) → course_of own ≡ Course.Removing → SoFar (begun s own node) nodes (begun s own node).stage
-    by_kind OpKind.Disable e = asks nodes s.core.nodes _ (those (λ k. rm.is_queried_node (node_at k s.core.nodes)) (leaving s.core node.serial))
-    by_kind OpKind.Eject e = asks nodes s.core.nodes _ (those (λ k. rm.is_queried_node (node_at k s.core.nodes)) (leaving s.core node.serial))
+    by_kind OpKind.Disable e = asks nodes s.core.nodes (taking_in s node OpKind.Disable) (those (λ k. rm.is_queried_node (node_at k s.core.nodes)) (leaving s.core node.serial))
+    by_kind OpKind.Eject e = asks nodes s.core.nodes (taking_in s node OpKind.Eject) (those (λ k. rm.is_queried_node (node_at k s.core.nodes)) (leaving s.core node.serial))
     by_kind OpKind.Surprise e = absurd (cc)
     by_kind OpKind.Rebalance e = absurd (cc)
     by_kind OpKind.Change e = absurd (cc)
@@ -248,7 +251,7 @@ module _ (settings : Settings) (s : State) (good : Kept s) (before : GoesSoFar s
   goes_so_far : (entry : Entry) (t : State) → Goes settings s entry t → GoesSoFar t
   goes_so_far (Happens event label) t goes = happens event label t goes
   goes_so_far (Did label) t goes = did label t goes (effect_goes settings s (Did label) t goes).operation
-  goes_so_far (Declines label) t goes p e = absurd (let none = ap (λ (x : State). x.operation) goes.dropped ∙ (due_is_first s goes.first goes.is_due).idle in cc)
+  goes_so_far (Declines label) t goes = λ p e. absurd (let none = ap (λ (x : State). x.operation) goes.dropped ∙ (due_is_first s goes.first goes.is_due).idle in cc)
 
 reached_so_far : (settings : Settings) (rack : List Driver) (s : State) → IsReached settings rack s → GoesSoFar s
 reached_so_far settings rack = kept GoesSoFar settings rack (λ old entry new reached h goes. goes_so_far settings old (reaches_kept settings rack reached.0 old reached.1) h entry new goes) (λ p e. absurd (cc))
