@@ -16,7 +16,6 @@ use Rattle.pnp_model.specs.Events.{answer_of, completed}
 use Rattle.pnp_model.specs.Frames.{first_node, rest}
 use Rattle.pnp_model.specs.Jobs.{JobMove, each_gets, job_of, stands}
 use Rattle.pnp_model.specs.Keyed.{changed_first, those}
-use Rattle.pnp_model.specs.Machine as ma
 use Rattle.pnp_model.specs.Rebalances as re
 use Rattle.pnp_model.specs.Records.{Core, Course, Found, Job, Node, Settings, Stage, State, Step, Walk, course_of}
 use Rattle.pnp_model.specs.Runs.{Entry, Goes}
@@ -26,29 +25,27 @@ use Rattle.pnp_model.specs.Tests.{has, is_started}
 use Rattle.pnp_model.specs.Trees.{above}
 use Rattle.pnp_model.specs.Walks.{state_after}
 use Rattle.pnp_model.proofs.Due.{due_is_first}
-use Rattle.pnp_laws.specs.Effects.{OpEffect, Running, begun, required}
+use Rattle.pnp_laws.specs.Effects.{OpEffect, begun, required}
 use Rattle.pnp_laws.specs.Kept.{OperationFits, RebalanceAsks, RebalanceKeeps, asked_in, rebalance_state, stopping_state}
 use Rattle.pnp_laws.specs.Reached.{IsReached}
-use Rattle.pnp_laws.proofs.Aboves.{IsAbove, above_over, is_above_in}
+use Rattle.pnp_laws.proofs.Aboves.{above_over, is_above_in}
 use Rattle.pnp_laws.proofs.Closures.{those_serial}
 use Rattle.pnp_laws.proofs.Due.{above_zero}
 use Rattle.pnp_laws.proofs.EffectsOf.{effect_goes}
-use Rattle.pnp_laws.proofs.EffectsOfOperations.{begun_work, rebalance_runs, rebalance_step_is}
+use Rattle.pnp_laws.proofs.EffectsOfOperations.{begun_work, rebalance_step_is}
 use Rattle.pnp_laws.proofs.EventChanges.{Answered, happens_outside}
 use Rattle.pnp_laws.proofs.Lists.{HeadIs, has_cases, head_found, head_has, rest_has, rest_within, those_found, those_has, those_keeps}
 use Rattle.pnp_laws.proofs.Lookups.{node_from, own_serial, some_same}
-use Rattle.pnp_laws.proofs.OpSteps.{has-reverse, is_Started}
-use Rattle.pnp_laws.proofs.Reaching.{kept, reached_on}
+use Rattle.pnp_laws.proofs.OpSteps.{has-reverse}
+use Rattle.pnp_laws.proofs.Reaching.{kept}
 use Rattle.pnp_laws.proofs.RebalanceRuns.{after_core}
-use Rattle.pnp_laws.proofs.RebalanceSteps.{head_started, head_stopping}
 use Rattle.pnp_laws.proofs.RunsStand.{Kept, reaches_kept}
-use Rattle.pnp_laws.proofs.Stages.{OperationStep, RebalanceAct, RebalanceStep, ended_by, operation_step, own_step}
+use Rattle.pnp_laws.proofs.Stages.{OperationStep, RebalanceAct, RebalanceStep, operation_step, own_step}
 use Rattle.pnp_laws.proofs.Standing.{OrderKept, Ordered, StageKept, Tree, kept_by}
 use Rattle.pnp_laws.proofs.TreeChanges.{above_same, nodes_kept}
 use Rattle.pnp_laws.proofs.Truths.{both_true, not_true}
 use Rattle.pnp_promises.proofs.StopOrder.{reached_falls}
 use Rattle.pnp_promises.proofs.Hears.{falls}
-use Rattle.pnp_promises.specs.Hears.{IsAsked}
 use Rattle.operation_promises.specs.Below.{IsDown, StoppedAfterAllBelowLaw}
 
 -- Started, below another
@@ -312,7 +309,7 @@ module _ (settings : Settings) (s : State) (good : Kept s) (before : AllBelow s)
   goes_below : (entry : Entry) (t : State) → Goes settings s entry t → AllBelow t
   goes_below (Happens event label) t goes = happens event label t goes
   goes_below (Did label) t goes = did label t goes (effect_goes settings s (Did label) t goes).operation
-  goes_below (Declines label) t goes p e course = absurd (let none = ap (λ (x : State). x.operation) goes.dropped ∙ (due_is_first s goes.first goes.is_due).idle in cc)
+  goes_below (Declines label) t goes = λ p e course. absurd (let none = ap (λ (x : State). x.operation) goes.dropped ∙ (due_is_first s goes.first goes.is_due).idle in cc)
 
 reached_below : (settings : Settings) (rack : List Rattle.pnp_model.specs.Records.Driver) (s : State) → IsReached settings rack s → AllBelow s
 reached_below settings rack = kept AllBelow settings rack (λ old entry new reached h goes. goes_below settings old (reaches_kept settings rack reached.0 old reached.1) h entry new goes) (λ p e course. absurd (cc))

@@ -1,7 +1,7 @@
 -- Each operation has a cause.
-use Rattle.std.proofs.Common.{ℕ, ◌≡◌, ◌≢◌, ◌⊎◌, inl, inr, Bool, true, false, not, ◌&&◌, List, [], ◌∷◌, ◌++◌, drop, Option, Some, None, Contains, refl, sym, ap, subst, ◌∙◌, if◌then◌else◌}
+use Rattle.std.proofs.Common.{ℕ, ◌≡◌, ◌⊎◌, inl, inr, Bool, true, false, not, ◌&&◌, List, [], ◌∷◌, ◌++◌, drop, Option, Some, None, Contains, refl, sym, ap, subst, ◌∙◌, if◌then◌else◌}
 use Rattle.std.proofs.lemmas.List.Elements.{Contains-append_cases}
-use Rattle.std.specs.List.{list_any, slice_get}
+use Rattle.std.specs.List.{list_any}
 use Rattle.resource_reqs.specs.Spelling.Answer.{assignment, no_fit, spent}
 use Rattle.resource_reqs.proofs.Counts.{contains_cons, contains_nil}
 use Rattle.pnp_labels.specs.Texts.{Text}
@@ -9,17 +9,16 @@ use Rattle.pnp_labels.specs.declared.deed.Deed.{Deed}
 use Rattle.pnp_labels.specs.declared.event.Event.{Event}
 use Rattle.pnp_labels.specs.declared.label.Label.{Label}
 use Rattle.pnp_labels.specs.declared.label.OpKind.{OpKind}
-use Rattle.pnp_labels.specs.declared.states.Problem.{Problem}
 use Rattle.pnp_model.specs.Cores.{node_at}
 use Rattle.pnp_model.specs.Jobs.{Beside, JobMove}
 use Rattle.pnp_model.specs.Laws.{Reaches}
 use Rattle.pnp_model.specs.Machine as ma
 use Rattle.pnp_model.specs.Rebalances as re
-use Rattle.pnp_model.specs.Records.{Course, Driver, Duty, Found, Job, Node, Phase, Settings, Stage, State, Step, Task, course_of}
+use Rattle.pnp_model.specs.Records.{Driver, Duty, Found, Job, Node, Phase, Settings, State, Step, Task}
 use Rattle.pnp_model.specs.Runs.{Entry, Goes, Run, opening}
 use Rattle.pnp_model.specs.Runs.Entry.{Happens, Did, Declines}
 use Rattle.pnp_model.specs.Starts as st
-use Rattle.pnp_model.specs.States.{is_in_world, node_of, set_operation, unplug, with_core}
+use Rattle.pnp_model.specs.States.{is_in_world, set_operation, unplug, with_core}
 use Rattle.pnp_model.specs.Tasks as tk
 use Rattle.pnp_model.specs.Tests.{is_surprise_removed}
 use Rattle.pnp_model.specs.Trees.{stands_up}
@@ -257,7 +256,7 @@ module _ (settings : Settings) (rack : List Driver) where
       ]
 
   caused_along : (entries : List Entry) (s : State) (more : List Entry) (t : State) → Reaches settings rack entries s → AllCaused entries s → Run settings s more t → AllCaused (entries ++ more) t
-  caused_along entries s [] t run old goes kind k there = later entries [] kind k (old kind k (subst (λ (x : State). Contains x.tasks (record { kind = Duty.Begins kind; serial = k })) goes there))
+  caused_along entries s [] t run old goes = λ kind k there. later entries [] kind k (old kind k (subst (λ (x : State). Contains x.tasks (record { kind = Duty.Begins kind; serial = k })) goes there))
   caused_along entries s (entry ∷ more) t run old (mid, goes, rest) =
       subst (λ (es : List Entry). AllCaused es t) (append_assoc entries entry more)
       (caused_along (entries ++ entry ∷ []) mid more t (run_on settings (opening rack) s mid entries (entry ∷ []) run (mid, goes, refl)) (caused_on entries s entry mid run old goes) rest)

@@ -2,3 +2,4 @@ pub mod Movers
 pub mod Removed
 pub mod Below
 pub mod Causes
+pub mod Done

@@ -1,16 +1,14 @@
 -- A rebalance, a change and a finish stay among their own.
-use Rattle.std.proofs.Common.{ℕ, ◌≡◌, ◌≢◌, ◌⊎◌, ◌==◌, inl, inr, Bool, true, false, List, [], ◌∷◌, map, reverse, Option, Some, None, refl, sym, ap, ◌∙◌, subst, arith, if◌then◌else◌}
+use Rattle.std.proofs.Common.{ℕ, ◌≡◌, ◌≢◌, inl, inr, Bool, true, false, List, [], ◌∷◌, map, reverse, Option, Some, None, refl, sym, ap, ◌∙◌, subst, arith, if◌then◌else◌}
 use Rattle.std.proofs.lemmas.Bool.{cases_eq}
 use Rattle.std.proofs.lemmas.Bool.Decides.{nat_tests}
 use Rattle.std.specs.Option.{option_map}
 use Rattle.resource_reqs.specs.Resources.{Reqs}
 use Rattle.resource_reqs.specs.Spelling.Answer.{assignment, no_fit, spent}
-use Rattle.pnp_labels.specs.Texts.{Text}
 use Rattle.pnp_labels.specs.declared.event.Event.{Event}
 use Rattle.pnp_labels.specs.declared.label.Label.{Label}
 use Rattle.pnp_labels.specs.declared.label.OpEnd.{OpEnd}
 use Rattle.pnp_labels.specs.declared.label.OpKind.{OpKind}
-use Rattle.pnp_labels.specs.declared.states.DevState.{DevState}
 use Rattle.pnp_labels.specs.declared.states.DevState.TheVariants.{Started, SurpriseRemoved}
 use Rattle.pnp_labels.specs.declared.states.Problem.{Problem}
 use Rattle.pnp_labels.specs.declared.words.Minor.{Minor}
@@ -19,25 +17,24 @@ use Rattle.pnp_model.specs.Events as ev
 use Rattle.pnp_model.specs.Finishes as fi
 use Rattle.pnp_model.specs.Frames.{asked, ended, first_node, rest}
 use Rattle.pnp_model.specs.Jobs.{Beside, JobMove, each_gets, job_of, stands}
-use Rattle.pnp_model.specs.Keyed.{changed_first, those, without_first}
-use Rattle.pnp_model.specs.Laws.{AllWithin, IsWithin, Reaches}
+use Rattle.pnp_model.specs.Keyed.{changed_first, those}
+use Rattle.pnp_model.specs.Laws.{AllWithin, IsWithin}
 use Rattle.pnp_model.specs.Machine as ma
 use Rattle.pnp_model.specs.Rebalances as re
 use Rattle.pnp_model.specs.Rebalances.{committed, movers, others, plan_of, startable}
-use Rattle.pnp_model.specs.Records.{Core, Course, Device, Driver, Found, Job, Node, Settings, Stage, State, Step, Walk, course_of}
+use Rattle.pnp_model.specs.Records.{Core, Course, Found, Job, Node, Settings, Stage, State, Step, Walk, course_of}
 use Rattle.pnp_model.specs.Runs.{Entry, Goes, Run, printed}
 use Rattle.pnp_model.specs.Runs.Entry.{Happens, Did, Declines}
 use Rattle.pnp_model.specs.States.{device_born, set_operation, with_core}
 use Rattle.pnp_model.specs.Tests.{has, is_started}
 use Rattle.pnp_model.specs.Walks.{state_after}
 use Rattle.pnp_laws.specs.Effects.{OpEffect, Turn, begun, required}
-use Rattle.pnp_laws.specs.Kept.{Ascending, OperationFits}
+use Rattle.pnp_laws.specs.Kept.{Ascending}
 use Rattle.pnp_laws.proofs.EffectsOf.{effect_goes}
-use Rattle.pnp_laws.proofs.EffectsOfOperations.{SameFrame, begun_work, fi_settle_on, re_ask_on, re_cancel_on, re_restart, re_stop_on, turn_work}
 use Rattle.pnp_laws.proofs.EventChanges.{Answered, happens_outside}
 use Rattle.pnp_laws.proofs.Finishing.{relist_only}
-use Rattle.pnp_laws.proofs.Lists.{cons_here, cons_there, has_cases, head_found, head_has, member, rest_within, those_found, those_has, without_has}
-use Rattle.pnp_laws.proofs.Lookups.{left_other, map_from, node_at-map, node_changed_other, node_from, own_serial, some_same}
+use Rattle.pnp_laws.proofs.Lists.{has_cases, head_found, head_has, member, rest_within, those_found, those_has, without_has}
+use Rattle.pnp_laws.proofs.Lookups.{left_other, node_at-map, node_changed_other, node_from, own_serial, some_same}
 use Rattle.pnp_laws.proofs.OpSteps.{has-reverse}
 use Rattle.pnp_laws.proofs.RebalanceRuns.{after_core}
 use Rattle.pnp_laws.proofs.RebalanceSteps.{startable_has}
@@ -46,8 +43,7 @@ use Rattle.pnp_laws.proofs.Sharing.{part_not}
 use Rattle.pnp_laws.proofs.Stages.{FinishAct, FinishStep, OperationStep, RebalanceAct, RebalanceStep, asking, ended_by, operation_step, own_step}
 use Rattle.pnp_laws.proofs.Truths.{and_both}
 use Rattle.pnp_laws.proofs.Turns.{running_good, taken_told}
-use Rattle.pnp_promises.proofs.Lines.{lines_mean_what_they_say}
-use Rattle.operation_promises.specs.Movers.{IsOneOf, IsOwn, Moves, NamesOwn, OperationsMoveTheirOwnLaw, WasIn}
+use Rattle.operation_promises.specs.Movers.{IsOwn, Moves, NamesOwn, OperationsMoveTheirOwnLaw}
 
 -- it goes on
 abbrev OnBeside : Beside → Type 0
@@ -402,12 +398,12 @@ gone_own : (c : Core) (kind : OpKind) (moves : Moves kind) (n : Node) → GoneIs
 gone_own c kind moves n is j m at state = by_kind kind moves is
   where
     by_kind : (own : OpKind) → Moves own → course_of own ≡ Course.Finishing → IsOwn own c n j
-    by_kind OpKind.Finish m is = (m, at, state)
-    by_kind OpKind.Rebalance m is = absurd (cc)
-    by_kind OpKind.Change m is = absurd (cc)
-    by_kind OpKind.Disable m is = absurd m
-    by_kind OpKind.Eject m is = absurd m
-    by_kind OpKind.Surprise m is = absurd m
+    by_kind OpKind.Finish moves is = (m, at, state)
+    by_kind OpKind.Rebalance moves is = absurd (cc)
+    by_kind OpKind.Change moves is = absurd (cc)
+    by_kind OpKind.Disable moves is = absurd moves
+    by_kind OpKind.Eject moves is = absurd moves
+    by_kind OpKind.Surprise moves is = absurd moves
 
 -- what begins is for the device of the path
 begins_stays : (settings : Settings) (s : State) (kept : Kept s) (kind : OpKind) (moves : Moves kind) (n : Node) (t : State) → node_at n.serial s.core.nodes ≡ Some n → OpEffect s (Label.Begin kind n.path) t → Stays s.core kind moves n t

@@ -1,16 +1,13 @@
 -- Where a device is asked REMOVE nothing depends on it any more.
-use Rattle.std.proofs.Common.{ℕ, ◌≡◌, ◌≢◌, Bool, true, false, List, [], ◌∷◌, Option, Some, None, refl, sym, ap, subst, ◌∙◌}
+use Rattle.std.proofs.Common.{ℕ, ◌≡◌, true, List, [], ◌∷◌, Option, Some, refl, sym, ap, subst, ◌∙◌}
 use Rattle.std.specs.List.{slice_get}
 use Rattle.std.specs.Option.{option_map}
-use Rattle.pnp_labels.specs.declared.states.DevState.{DevState}
-use Rattle.pnp_labels.specs.declared.states.DevState.TheVariants.{NotStarted}
 use Rattle.pnp_labels.specs.declared.words.Minor.{Minor}
-use Rattle.pnp_model.specs.Cores.{node_at}
 use Rattle.pnp_model.specs.Machine.{phase_walk}
-use Rattle.pnp_model.specs.Records.{Activity, Course, Job, Node, Phase, Stage, State, Walk, course_of}
+use Rattle.pnp_model.specs.Records.{Course, Job, Node, Phase, Stage, State, Walk, course_of}
 use Rattle.pnp_model.specs.Tests.{has}
 use Rattle.pnp_model.specs.Trees.{dependents}
-use Rattle.pnp_laws.specs.Kept.{Fits, IsOwn, JobFits, OperationFits, RemovalAsks, RemovalKeeps, asked_in, is_idle}
+use Rattle.pnp_laws.specs.Kept.{Fits, IsOwn, JobFits, OperationFits, RemovalAsks, asked_in, is_idle}
 use Rattle.pnp_laws.specs.Told.{IsWalkOf}
 use Rattle.pnp_laws.proofs.Finishes.{head_free}
 use Rattle.pnp_laws.proofs.Lists.{HeadIs, head_has}

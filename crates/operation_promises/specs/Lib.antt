@@ -1,3 +1,4 @@
 pub mod Movers
 pub mod Below
 pub mod Causes
+pub mod Done

@@ -2,6 +2,7 @@
 
 ghost use Rattle.operation_promises.specs.Below.{RemovedAfterAllThatDependLaw, StoppedAfterAllBelowLaw};
 ghost use Rattle.operation_promises.specs.Causes.{OperationsHaveCausesLaw};
+ghost use Rattle.operation_promises.specs.Done.{EndsSayWhatWasDoneLaw};
 ghost use Rattle.operation_promises.specs.Movers.{OperationsMoveTheirOwnLaw};
 
 /// From the begin of a rebalance, a change or a finish to its end each line names a device of its own, or its path: of a rebalance and a
@@ -24,4 +25,12 @@ pub fn removed_after_all_that_depend()
 /// `gone`, or problem 10 of a device that would not start again.
 pub fn operations_have_causes()
     ensures { OperationsHaveCausesLaw }
+{}
+
+/// Where an operation ends, what its last line says is done: after `done` of a disable, an eject or a surprise removal none of its devices
+/// has drivers; a veto tells the path of one that refused; after `waiting` none is up; after `moved` the device of the operation holds one
+/// whole alternative of what it requires; after `nofit` and `spent` nothing was found; and after `refused` the device of a change had not
+/// agreed to stop.
+pub fn ends_say_what_was_done()
+    ensures { EndsSayWhatWasDoneLaw }
 {}
