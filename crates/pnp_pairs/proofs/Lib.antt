@@ -15,3 +15,10 @@ mod Places
 pub mod SameDrivers
 pub mod OwnSets
 pub mod Struck
+mod Agreeing
+mod Leading
+mod Placing
+mod Walking
+mod Alone
+mod Disabling
+mod Enabling

@@ -1,3 +1,4 @@
+pub mod DisabledAndEnabled
 pub mod OwnSets
 pub mod Renamed
 pub mod Renaming
