@@ -27,36 +27,21 @@ use Rattle.pnp_model.specs.Tasks as tk
 use Rattle.pnp_model.specs.Tests.{has, has_same}
 use Rattle.pnp_model.specs.Trees.{children, is_child}
 use Rattle.pnp_model.specs.Walks.{has_ended, is_bad}
-use Rattle.pnp_pairs.specs.DisabledAndEnabled.{HasNoRule}
+use Rattle.pnp_pairs.specs.DisabledAndEnabled.{HasNoRule, IsChosen}
 use Rattle.pnp_pairs.proofs.Agreeing.{core_stays, says_ok}
 use Rattle.pnp_pairs.proofs.Disabling.{disabled, owes, stood}
 use Rattle.pnp_pairs.proofs.Leading.{Leads, leads_on, searches_on, stays, steps_on}
 use Rattle.pnp_pairs.proofs.Placing.{any_put, at_put, put, put_changed, those_put}
 use Rattle.pnp_pairs.proofs.Walking.{acts_next, in_phase, is_good, is_over, moves_on, starting, starts_all, walk_at}
 
--- the drivers that the INFs name for a device, in order
-pub record IsChosen (settings : Settings) (s : State) (n : Node) (drivers : List ℕ) : Type 0 where
-  pub choice : Choice
-  pub best : settings.best n.hw n.compat ≡ Some choice
-  pub service : Text
-  pub has_service : choice.service ≡ Some service
-  pub few : nat_le (length choice.lower + 1 + length choice.upper) 16 ≡ true
-  pub lower : List ℕ
-  pub own : ℕ
-  pub upper : List ℕ
-  pub lower_are : tk.numbered s.core.rack choice.lower ≡ Some lower
-  pub own_is : driver_named service s.core.rack ≡ Some own
-  pub upper_are : tk.numbered s.core.rack choice.upper ≡ Some upper
-  pub all : drivers ≡ lower ++ own ∷ upper
-
 -- nobody else than before is found
 alike_found : {A : Type 0} (p q : A → Bool) → ((x : A) → p x ≡ q x) → (xs : List A) → find p xs ≡ find q xs
 alike_found p q alike [] = refl
 alike_found {A = A} p q alike (x ∷ xs) = ap₂ (λ (b : Bool) (o : Option A). cond b (Some x) o) (alike x) (alike_found p q alike xs)
 
-nil_end : (xs : List ℕ) → xs ++ [] ≡ xs
+pub nil_end : {A : Type 0} (xs : List A) → xs ++ [] ≡ xs
 nil_end [] = refl
-nil_end (x ∷ xs) = ap (λ (ys : List ℕ). x ∷ ys) (nil_end xs)
+nil_end {A = A} (x ∷ xs) = ap (λ (ys : List A). x ∷ ys) (nil_end xs)
 
 one_end : (xs : List ℕ) (y : ℕ) (ys : List ℕ) → (xs ++ y ∷ []) ++ ys ≡ xs ++ y ∷ ys
 one_end [] y ys = refl
@@ -68,7 +53,7 @@ with_all n drivers state holds = record n { stack = drivers; state = state; prob
 
 module _ (settings : Settings) (s : State) (n : Node) (d : ℕ) (ds : List ℕ) (stack : n.stack ≡ d ∷ ds) (at : node_at n.serial s.core.nodes ≡ Some n) (below : n.parent ≢ n.serial) (rels : List Relation)
     (enabled : has_same n.path s.disabled ≡ false) (childless : children n.serial s.core.nodes ≡ []) (none_joins : tk.joining n.born s.core.nodes s.world ≡ None)
-    (steady : AllByRecursion (HasNoRule s.core.rack n.path) n.stack) (chosen : IsChosen settings s n n.stack)
+    (steady : AllByRecursion (HasNoRule s.core.rack n.path) n.stack) (chosen : IsChosen settings s.core.rack n n.stack)
     (plan : List (List Res)) (answer : IsAnswer (own_problem s.core n).fixed (own_problem s.core n).movers settings.budget (assignment plan)) where
   abbrev k : ℕ
   k = n.serial

@@ -22,3 +22,6 @@ mod Walking
 mod Alone
 mod Disabling
 mod Enabling
+mod PartSteps
+mod HeldFits
+mod DisabledAndEnabled

@@ -1,5 +1,6 @@
 //! What holds of two runs of the device machine.
 
+ghost use Rattle.pnp_pairs.specs.DisabledAndEnabled.{DisabledAndEnabledLaw};
 ghost use Rattle.pnp_pairs.specs.OwnSets.{OperationsStayInTheirSetLaw};
 ghost use Rattle.pnp_pairs.specs.Renaming.{RenamingOnlyRenamesLaw, RenamedEndsAlikeLaw, RenamingRenamesLaw};
 ghost use Rattle.pnp_pairs.specs.SameDrivers.{ChoiceHangsOnIdsLaw, IdsStayLaw, SameDeviceSameDriversLaw, SameIdsSameDriversLaw};
@@ -59,4 +60,10 @@ pub fn same_device_same_drivers()
 /// that depended on that, and nobody else changes, whatever happens in between.
 pub fn operations_stay_in_their_set()
     ensures { OperationsStayInTheirSetLaw }
+{}
+
+/// Where nothing is under way, a device on which nothing depends, and whose drivers agree to all, is disabled and enabled: the machine comes
+/// to rest as it was, and the device is Started with the same drivers; but it holds what a search finds first, and its relations are gone.
+pub fn disabled_and_enabled_is_as_before()
+    ensures { DisabledAndEnabledLaw }
 {}
