@@ -43,7 +43,7 @@ pub nil_end : {A : Type 0} (xs : List A) → xs ++ [] ≡ xs
 nil_end [] = refl
 nil_end {A = A} (x ∷ xs) = ap (λ (ys : List A). x ∷ ys) (nil_end xs)
 
-one_end : (xs : List ℕ) (y : ℕ) (ys : List ℕ) → (xs ++ y ∷ []) ++ ys ≡ xs ++ y ∷ ys
+pub one_end : (xs : List ℕ) (y : ℕ) (ys : List ℕ) → (xs ++ y ∷ []) ++ ys ≡ xs ++ y ∷ ys
 one_end [] y ys = refl
 one_end (x ∷ xs) y ys = ap (λ (zs : List ℕ). x ∷ zs) (one_end xs y ys)
 

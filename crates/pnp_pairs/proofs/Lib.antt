@@ -22,6 +22,9 @@ mod Walking
 mod Alone
 mod Disabling
 mod Enabling
+mod ChosenStacks
 mod PartSteps
+mod PartOperations
+mod Parts
 mod HeldFits
 mod DisabledAndEnabled

@@ -1,6 +1,6 @@
 -- Where no operation runs and all that is under way is of some devices, a step is of one of them.
-use Rattle.std.proofs.Common.{ℕ, suc, ◌+◌, ◌≡◌, ◌≢◌, ◌⊎◌, ◌==◌, inl, inr, Bool, true, false, not, List, [], ◌∷◌, ◌++◌, length, nat_le, Option, Some, None, Contains, refl, sym, ap, ◌∙◌, subst, arith, cond}
-use Rattle.std.specs.List.{drop, find, slice_get}
+use Rattle.std.proofs.Common.{ℕ, suc, ◌+◌, ◌≤◌, ◌≡◌, ◌≢◌, ◌⊎◌, ◌==◌, inl, inr, Bool, true, false, not, List, [], ◌∷◌, ◌++◌, length, nat_le, drop, Option, Some, None, Contains, refl, sym, ap, ◌∙◌, subst, arith, cond}
+use Rattle.std.specs.List.{find, slice_get}
 use Rattle.std.proofs.lemmas.Bool.Decides.{nat_tests}
 use Rattle.std.proofs.lemmas.List.Elements.{Contains-append_cases}
 use Rattle.resource_reqs.specs.Resources.{Res}
@@ -19,12 +19,12 @@ use Rattle.pnp_labels.specs.declared.words.AskWhat.{AskWhat}
 use Rattle.pnp_model.specs.Books.{driver_named, rack_reply}
 use Rattle.pnp_model.specs.Cores.{bare, is_node, node_at, set_problem, stacked, with_holds, with_problem, with_stack, with_state}
 use Rattle.pnp_model.specs.Frames.{core_after}
-use Rattle.pnp_model.specs.Keyed.{changed_first, without_first}
+use Rattle.pnp_model.specs.Keyed.{changed_first, put_before, without_first}
 use Rattle.pnp_model.specs.Records.{Activity, Choice, Device, Duty, Found, Job, Node, Phase, Settings, State, Step, Task, Walk, doing_map}
 use Rattle.pnp_model.specs.Records.Phase.{Adding, Searching, Starting, Removing, Due}
 use Rattle.pnp_model.specs.Machine as ma
 use Rattle.pnp_model.specs.Starts as st
-use Rattle.pnp_model.specs.States.{activity_at, device_born, entered, is_activity, new_child, with_phase}
+use Rattle.pnp_model.specs.States.{activity_at, device_born, is_above, is_activity, new_child, with_phase}
 use Rattle.pnp_model.specs.Tasks as tk
 use Rattle.pnp_model.specs.Tests.{has_same}
 use Rattle.pnp_model.specs.Trees.{children, is_child}
@@ -62,14 +62,14 @@ in_without {A = A} test (y ∷ ys) x c = by_test (test y) c (in_without test ys 
     by_test true d more = contains_later y ys x d
     by_test false d more = elim (contains_cons y (without_first test ys) x d) [ inl e ↦ subst (λ (z : A). Contains (y ∷ ys) z) (sym e) (contains_here y ys) | inr q ↦ contains_later y ys x (more q) ]
 
-in_put : {A : Type 0} (test : A → Bool) (new : A) (xs : List A) (x : A) → Contains (Rattle.pnp_model.specs.Keyed.put_before test new xs) x → (x ≡ new) ⊎ Contains xs x
+in_put : {A : Type 0} (test : A → Bool) (new : A) (xs : List A) (x : A) → Contains (put_before test new xs) x → (x ≡ new) ⊎ Contains xs x
 in_put test new [] x c = elim (contains_cons new [] x c) [ inl e ↦ inl e | inr q ↦ inr q ]
 in_put {A = A} test new (y ∷ ys) x c = by_test (test y) c (in_put test new ys x)
   where
-    by_test : (b : Bool) → Contains (cond b (new ∷ y ∷ ys) (y ∷ Rattle.pnp_model.specs.Keyed.put_before test new ys)) x → (Contains (Rattle.pnp_model.specs.Keyed.put_before test new ys) x → (x ≡ new) ⊎ Contains ys x) → (x ≡ new) ⊎ Contains (y ∷ ys) x
+    by_test : (b : Bool) → Contains (cond b (new ∷ y ∷ ys) (y ∷ put_before test new ys)) x → (Contains (put_before test new ys) x → (x ≡ new) ⊎ Contains ys x) → (x ≡ new) ⊎ Contains (y ∷ ys) x
     by_test true d more = contains_cons new (y ∷ ys) x d
     by_test false d more =
-        elim (contains_cons y (Rattle.pnp_model.specs.Keyed.put_before test new ys) x d) [
+        elim (contains_cons y (put_before test new ys) x d) [
           | inl e ↦ inr (subst (λ (z : A). Contains (y ∷ ys) z) (sym e) (contains_here y ys))
           | inr q ↦ elim (more q) [ inl e ↦ inl e | inr r ↦ inr (contains_later y ys x r) ]
         ]
@@ -77,7 +77,7 @@ in_put {A = A} test new (y ∷ ys) x c = by_test (test y) c (in_put test new ys 
 pub in_more : {A : Type 0} (xs : List A) (new x : A) → Contains (xs ++ new ∷ []) x → (x ≡ new) ⊎ Contains xs x
 in_more xs new x c = elim (Contains-append_cases xs (new ∷ []) x c) [ inl q ↦ inr q | inr q ↦ elim (contains_cons new [] x q) [ inl e ↦ inl e | inr none ↦ absurd (contains_nil x none) ] ]
 
-in_found : {A : Type 0} (test : A → Bool) (xs : List A) (x : A) → find test xs ≡ Some x → Contains xs x
+pub in_found : {A : Type 0} (test : A → Bool) (xs : List A) (x : A) → find test xs ≡ Some x → Contains xs x
 in_found test [] x h = absurd (cc)
 in_found {A = A} test (y ∷ ys) x h = by_test (test y) h (in_found test ys x)
   where
@@ -98,7 +98,7 @@ pub record IsMine (mine : ℕ → Bool) (s : State) (step : Step) : Type 0 where
 abbrev pub Mine : (ℕ → Bool) → State → Step → Type 0
 Mine mine s step = IsLocal step.label → IsMine mine s step
 
-module _ (mine : ℕ → Bool) (s : State) (apart : IsApart mine s) (work : AreAtWork mine s) (order : Ascending 0 s.core.nodes) (known : (k : ℕ) (n : Node) → node_at k s.core.nodes ≡ Some n → suc k Rattle.std.proofs.Common.≤ s.next_serial) where
+module _ (mine : ℕ → Bool) (s : State) (apart : IsApart mine s) (work : AreAtWork mine s) (order : Ascending 0 s.core.nodes) where
   abbrev P : Step → Type 0
   P step = Mine mine s step
 
@@ -138,7 +138,7 @@ module _ (mine : ℕ → Bool) (s : State) (apart : IsApart mine s) (work : AreA
         record { names = one child gone.0 mine_too; others = λ j out. refl; tasks = appended (record { kind = Duty.Begins OpKind.Surprise; serial = child.serial }) mine_too; starts = work.starts }
 
     joins_or_on : (o : Option Device) → tk.joining n.born s.core.nodes s.world ≡ o → P (tk.join_or_on s n o)
-    joins_or_on None e = listed (tk.gone_child s n.serial) refl
+    joins_or_on None e local = listed (tk.gone_child s n.serial) refl local
     joins_or_on (Some d) e local =
         let new : mine s.next_serial ≡ true = apart.later s.next_serial (omega arith) in
         record {
@@ -178,7 +178,7 @@ module _ (mine : ℕ → Bool) (s : State) (apart : IsApart mine s) (work : AreA
           names = one n at own;
           others = changed n own (with_problem None) (λ x. refl);
           tasks = dropped;
-          starts = λ a c. (elim (in_put (Rattle.pnp_model.specs.States.is_above n.serial) (record { serial = n.serial; phase = st.adding drivers }) s.activities a c) [ inl e ↦ ap (λ (x : Activity). mine x.serial) e ∙ own | inr q ↦ work.starts a q ]);
+          starts = λ a c. (elim (in_put (is_above n.serial) (record { serial = n.serial; phase = st.adding drivers }) s.activities a c) [ inl e ↦ ap (λ (x : Activity). mine x.serial) e ∙ own | inr q ↦ work.starts a q ]);
         }
 
     installs_named : (rank : ℕ) (lower : Option (List ℕ)) (driver : Option ℕ) (upper : Option (List ℕ)) → P (tk.install_named s n rank lower driver upper)
@@ -217,32 +217,32 @@ module _ (mine : ℕ → Bool) (s : State) (apart : IsApart mine s) (work : AreA
     begins kind job local = record { names = one n at own; others = λ j out. refl; tasks = dropped; starts = work.starts }
 
     rebalances_idle : (o : Option Activity) → P (tk.rebalance_idle s n o)
-    rebalances_idle (Some a) = skips _ n.serial
+    rebalances_idle (Some a) = skips (Duty.Begins OpKind.Rebalance) n.serial
     rebalances_idle None = begins OpKind.Rebalance _
 
     rebalances : (x : DevState) → P (tk.rebalance_task s n x)
     rebalances NotStarted = rebalances_idle (activity_at n.serial s.activities)
-    rebalances _ = skips _ n.serial
+    rebalances _ = skips (Duty.Begins OpKind.Rebalance) n.serial
 
     disables : (disabled : Bool) → P (tk.disable_task s n disabled)
-    disables true = skips _ n.serial
+    disables true = skips (Duty.Begins OpKind.Disable) n.serial
     disables false = begins OpKind.Disable _
 
     surprises : (x : DevState) → P (tk.surprise_task s n x)
-    surprises SurpriseRemoved = skips _ n.serial
+    surprises SurpriseRemoved = skips (Duty.Begins OpKind.Surprise) n.serial
     surprises _ = begins OpKind.Surprise _
 
     finishes : (ready : Bool) → P (tk.finish_task s n ready)
     finishes true = begins OpKind.Finish _
-    finishes false = skips _ n.serial
+    finishes false = skips (Duty.Begins OpKind.Finish) n.serial
 
     changes_born : (o : Option Device) → P (tk.change_born s n o)
-    changes_born None = skips _ n.serial
+    changes_born None = skips (Duty.Begins OpKind.Change) n.serial
     changes_born (Some d) = begins OpKind.Change _
 
     changes : (x : DevState) → P (tk.change_task s n x)
     changes Started = changes_born (device_born n.born s.world)
-    changes _ = skips _ n.serial
+    changes _ = skips (Duty.Begins OpKind.Change) n.serial
 
     begins_kind : (kind : OpKind) (k : ℕ) → P (tk.begin_step s kind k (Some n))
     begins_kind OpKind.Rebalance k = rebalances n.state
@@ -261,9 +261,7 @@ module _ (mine : ℕ → Bool) (s : State) (apart : IsApart mine s) (work : AreA
     by_move : (m : st.StartMove) → ((path : Text) → named m.label ≡ Some path → Some n.path ≡ Some path) → ((j : ℕ) → mine j ≡ false → node_at j m.core.nodes ≡ node_at j s.core.nodes) → Q m
     by_move m says others local = by_beside m.beside
       where
-        abbrev now : st.StartBeside → State
-        now beside = ma.after_start n.serial m.frame beside (record s { core = m.core })
-        by_beside : (beside : st.StartBeside) → IsMine mine s (record { label = m.label; state = now beside })
+        by_beside : (beside : st.StartBeside) → IsMine mine s (record { label = m.label; state = ma.after_start n.serial m.frame beside (record s { core = m.core }) })
         by_beside st.StartBeside.On =
             record {
               names = λ path e. one n at own path (says path e);

@@ -2,6 +2,7 @@
 
 ghost use Rattle.pnp_pairs.specs.DisabledAndEnabled.{DisabledAndEnabledLaw};
 ghost use Rattle.pnp_pairs.specs.OwnSets.{OperationsStayInTheirSetLaw};
+ghost use Rattle.pnp_pairs.specs.Parts.{PartsStayApartLaw};
 ghost use Rattle.pnp_pairs.specs.Renaming.{RenamingOnlyRenamesLaw, RenamedEndsAlikeLaw, RenamingRenamesLaw};
 ghost use Rattle.pnp_pairs.specs.SameDrivers.{ChoiceHangsOnIdsLaw, IdsStayLaw, SameDeviceSameDriversLaw, SameIdsSameDriversLaw};
 ghost use Rattle.pnp_pairs.specs.Struck.{StruckRunsDoTheRestLaw, RefusedLeavesNoTraceLaw};
@@ -66,4 +67,10 @@ pub fn operations_stay_in_their_set()
 /// to rest as it was, and the device is Started with the same drivers; but it holds what a search finds first, and its relations are gone.
 pub fn disabled_and_enabled_is_as_before()
     ensures { DisabledAndEnabledLaw }
+{}
+
+/// A part of the tree stays by itself: while all that is under way is of some devices, on which nobody else hangs, each line names one of
+/// them, nobody else changes, and what is under way then is of them again; but where an operation begins that looks at all devices.
+pub fn parts_stay_apart()
+    ensures { PartsStayApartLaw }
 {}
