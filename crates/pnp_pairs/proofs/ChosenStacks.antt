@@ -42,8 +42,7 @@ use Rattle.pnp_laws.proofs.Reaching.{kept}
 use Rattle.pnp_laws.proofs.Runs.{root_is}
 use Rattle.pnp_laws.proofs.RunsStacks.{stacks_fit}
 use Rattle.pnp_laws.proofs.RunsStand.{reaches_kept}
-use Rattle.pnp_pairs.specs.DisabledAndEnabled.{IsChosen}
-use Rattle.pnp_pairs.proofs.Enabling.{nil_end, one_end}
+use Rattle.pnp_pairs.proofs.Enabling.{IsChosen, nil_end, one_end}
 use Rattle.pnp_pairs.proofs.Places.{Finds, finds_goes, numbered_still}
 
 -- the drivers that the INFs name, but for how many they may be
@@ -137,6 +136,13 @@ module _ (settings : Settings) where
     stayed : ((x : Node) → j ≢ 0 → node_at j nodes ≡ Some x → OfNode rack x (activity_at j now)) → Each rack nodes now
     stayed own = subst (λ (ns : List Node). Each rack ns now) (changed_none (is_node j) nodes) (moved (λ (x : Node). x) (λ x. refl) own)
 
+  -- beside a move the devices stay as it left them
+  same_core : (k : ℕ) (phase : Phase) (beside : st.StartBeside) (t : State) → (ma.after_start k phase beside t).core.nodes ≡ t.core.nodes
+  same_core k phase st.StartBeside.On t = refl
+  same_core k phase st.StartBeside.Needs t = refl
+  same_core k phase st.StartBeside.Up t = refl
+  same_core k phase st.StartBeside.Over t = refl
+
   -- Where no operation runs ---------------------------------------------------------------------------------------------
 
   module _ (s : State) (none : s.operation ≡ None) (good : IsGood s) (each : Each s.core.rack s.core.nodes s.activities) where
@@ -219,7 +225,7 @@ module _ (settings : Settings) where
             (λ x up there.
             subst (λ (o : Option Activity). OfNode s.core.rack (f x) o) (sym set)
             (subst (λ (z : Node). InPhase s.core.rack (f z).hw (f z).compat (f z).stack m.frame) (sym (some_same (node_at k s.core.nodes) x n there at)) h)) in
-            subst (λ (b : st.StartBeside). Each s.core.rack m.core.nodes (ma.after_start k m.frame b (record s { core = m.core })).activities) (sym on) (subst (λ (ns : List Node). Each s.core.rack ns now) (sym nodes) all)
+            subst (λ (b : st.StartBeside). Each s.core.rack (ma.after_start k m.frame b (record s { core = m.core })).core.nodes (ma.after_start k m.frame b (record s { core = m.core })).activities) (sym on) (subst (λ (ns : List Node). Each s.core.rack ns now) (sym nodes) all)
 
         -- over: it is so with nothing under way
         is_over : (f : Node → Node) (m : st.StartMove) → ((x : Node) → (f x).serial ≡ x.serial) → m.core.nodes ≡ changed_first (is_node k) f s.core.nodes → (ma.after_start k m.frame m.beside (record s { core = m.core })).activities ≡ without_first (is_activity k) s.activities
@@ -231,7 +237,8 @@ module _ (settings : Settings) where
             (λ x up there.
             subst (λ (o : Option Activity). OfNode s.core.rack (f x) o) (sym (ended_same 0 k s.activities good.order))
             (subst (λ (z : Node). (f z).stack ≢ [] → HasChoice settings s.core.rack (f z).hw (f z).compat (f z).stack) (sym (some_same (node_at k s.core.nodes) x n there at)) h)) in
-            subst (λ (acts : List Activity). Each s.core.rack m.core.nodes acts) (sym off) (subst (λ (ns : List Node). Each s.core.rack ns now) (sym nodes) all)
+            subst (λ (acts : List Activity). Each s.core.rack (ma.after_start k m.frame m.beside (record s { core = m.core })).core.nodes acts) (sym off)
+            (subst (λ (ns : List Node). Each s.core.rack ns now) (sym (same_core k m.frame m.beside (record s { core = m.core }) ∙ nodes)) all)
 
         same_nodes : s.core.nodes ≡ changed_first (is_node k) (λ (x : Node). x) s.core.nodes
         same_nodes = sym (changed_none (is_node k) s.core.nodes)
@@ -315,6 +322,7 @@ module _ (settings : Settings) where
         by_start : (o : Option Activity) → P (tk.rebalance_idle s n o)
         by_start (Some a) = each
         by_start None = each
+
         by_state : (x : DevState) → P (tk.rebalance_task s n x)
         by_state NotStarted = by_start (activity_at n.serial s.activities)
         by_state _ = each
@@ -339,6 +347,7 @@ module _ (settings : Settings) where
         by_device : (o : Option Device) → P (tk.change_born s n o)
         by_device None = each
         by_device (Some d) = each
+
         by_state : (x : DevState) → P (tk.change_task s n x)
         by_state Started = by_device (device_born n.born s.world)
         by_state _ = each
@@ -404,10 +413,13 @@ module _ (settings : Settings) where
       where
         long : length s.tasks ≡ suc (length (drop 1 s.tasks))
         long = ap length (first_is s.tasks task first)
+
         short : length t.tasks ≡ length (drop 1 s.tasks)
         short = ap length less
+
         more : (new : Task) → t.tasks ≡ s.tasks ++ new ∷ [] → ⊥
         more new e = let a = ap length e ∙ length-append s.tasks (new ∷ []) in let b = long in let c = short in omega arith
+
         by_effect : TaskEffect s t → ⊥
         by_effect (TaskEffect.same e) = let a = ap length e in let b = long in let c = short in omega arith
         by_effect (TaskEffect.appended new why e) = more new e
@@ -442,6 +454,7 @@ module _ (settings : Settings) where
                   let none : activity_at k t.activities ≡ None = ap (activity_at k) e ∙ entered_other (record { serial = j; phase = phase }) k s.activities apart ∙ ap (activity_at k) idle in
                   subst (λ (o : Option Activity). OfNode s.core.rack n o) (sym none) (fine k n up at)
             ]
+
         by_effect : ActivityEffect s t → Each s.core.rack t.core.nodes t.activities
         by_effect (ActivityEffect.same e) = none_now (e ∙ idle)
         by_effect (ActivityEffect.enters j phase enters e) = by_enters j phase enters e
@@ -455,6 +468,7 @@ module _ (settings : Settings) where
     where
       with_both : (nodes : List Node) (acts : List Activity) → t.core.nodes ≡ nodes → t.activities ≡ acts → Each s.core.rack nodes acts → Each s.core.rack t.core.nodes t.activities
       with_both nodes acts e q h = subst (λ (xs : List Activity). Each s.core.rack t.core.nodes xs) (sym q) (subst (λ (ns : List Node). Each s.core.rack ns acts) (sym e) h)
+
       by_effect : AnswerEffect s label t → Each s.core.rack t.core.nodes t.activities
       by_effect (AnswerEffect.stays word nodes acts operation) = with_both s.core.nodes s.activities nodes acts each
       by_effect (AnswerEffect.answered word nodes acts ok o runs operation) = with_both s.core.nodes s.activities nodes acts each

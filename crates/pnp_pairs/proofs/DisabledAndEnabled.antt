@@ -40,8 +40,9 @@ use Rattle.pnp_laws.proofs.RunsWhole.{all_hold_whole}
 use Rattle.pnp_promises.specs.Later.{NoneDeclined, happened}
 use Rattle.pnp_pairs.specs.DisabledAndEnabled.{DisabledAndEnabledLaw, IsStill, StandsAlone, with_anew}
 use Rattle.pnp_pairs.proofs.Alone.{childless, leaves_alone}
+use Rattle.pnp_pairs.proofs.ChosenStacks.{is_chosen}
 use Rattle.pnp_pairs.proofs.Disabling.{disabled, disables, owes, rests, stood}
-use Rattle.pnp_pairs.proofs.Enabling.{nil_end, starts_again, with_all}
+use Rattle.pnp_pairs.proofs.Enabling.{IsChosen, nil_end, starts_again, with_all}
 use Rattle.pnp_pairs.proofs.HeldFits.{finds_some}
 use Rattle.pnp_pairs.proofs.Leading.{Leads, OnlySteps}
 use Rattle.pnp_pairs.proofs.OneRun.{one_run}
@@ -172,6 +173,9 @@ module _ (settings : Settings) (rack : List Driver) (earlier : List Entry) (s : 
   found =
       finds_some s.core n order (nothing_clashes settings rack earlier s run) at ((all_hold_whole settings rack earlier s run).up k n at (ap is_up_to_now alone.up)) settings.budget alone.in_budget
 
+  chosen : IsChosen settings s.core.rack n n.stack
+  chosen = is_chosen settings rack s n (earlier, run) still.idle alone.no_root at (λ e. (let z = sym e ∙ some_drivers.2 in cc))
+
   abbrev holds : List Res
   holds = own_part found.0
 
@@ -191,7 +195,7 @@ module _ (settings : Settings) (rack : List Driver) (earlier : List Entry) (s : 
 
   comes_back : Leads settings (owes Duty.Starting k (stood (disabled n) apart s)) end
   comes_back =
-      starts_again settings s n some_drivers.0 some_drivers.1 some_drivers.2 at below apart (enabled settings s path n alone at) (childless s.core n order alone.nobody) alone.none_joins alone.agree alone.chosen found.0 found.1
+      starts_again settings s n some_drivers.0 some_drivers.1 some_drivers.2 at below apart (enabled settings s path n alone at) (childless s.core n order alone.nobody) alone.none_joins alone.agree chosen found.0 found.1
 
   abbrev second : List Entry
   second = Happens (Event.Enable path) (Label.Did (Deed.Enabled n.path)) ∷ comes_back.entries
@@ -201,12 +205,11 @@ module _ (settings : Settings) (rack : List Driver) (earlier : List Entry) (s : 
 
   cycled : Run settings s cycle end
   cycled =
-      subst (λ (x : State). Run settings x cycle end) (sym (is_resting s still))
-      (
+      subst (λ (x : State). Run settings x cycle end) (sym (is_resting s still)) (
         owes (Duty.Begins OpKind.Disable) k s,
         (refl, disable_is settings s path n alone at),
         run_on settings (owes (Duty.Begins OpKind.Disable) k s) out end goes_out.entries second goes_out.run
-        (owes Duty.Starting k (stood (disabled n) apart s), (refl, enable_is settings s path n alone at (disabled n) apart refl refl), comes_back.run),
+            (owes Duty.Starting k (stood (disabled n) apart s), (refl, enable_is settings s path n alone at (disabled n) apart refl refl), comes_back.run),
       )
 
   cycle_happened : happened cycle ≡ Event.Disable path ∷ Event.Enable path ∷ []

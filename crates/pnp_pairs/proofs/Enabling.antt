@@ -19,7 +19,7 @@ use Rattle.pnp_model.specs.Cores.{is_node, node_at, set_holds, set_problem, set_
 use Rattle.pnp_model.specs.Frames.{core_after, fixed_beside, held_by, is_beside}
 use Rattle.pnp_model.specs.Keyed.{changed_first, those}
 use Rattle.pnp_model.specs.Machine as ma
-use Rattle.pnp_model.specs.Records.{Activity, Choice, Core, Device, Doing, Duty, Found, Node, Phase, Relation, Settings, State, Step, Walk, doing_map}
+use Rattle.pnp_model.specs.Records.{Activity, Choice, Core, Device, Doing, Driver, Duty, Found, Node, Phase, Relation, Settings, State, Step, Walk, doing_map}
 use Rattle.pnp_model.specs.Records.Doing.{Does, Searches}
 use Rattle.pnp_model.specs.Starts as st
 use Rattle.pnp_model.specs.Starts.{adding, own_part, own_problem}
@@ -27,12 +27,27 @@ use Rattle.pnp_model.specs.Tasks as tk
 use Rattle.pnp_model.specs.Tests.{has, has_same}
 use Rattle.pnp_model.specs.Trees.{children, is_child}
 use Rattle.pnp_model.specs.Walks.{has_ended, is_bad}
-use Rattle.pnp_pairs.specs.DisabledAndEnabled.{HasNoRule, IsChosen}
+use Rattle.pnp_pairs.specs.DisabledAndEnabled.{HasNoRule}
 use Rattle.pnp_pairs.proofs.Agreeing.{core_stays, says_ok}
 use Rattle.pnp_pairs.proofs.Disabling.{disabled, owes, stood}
 use Rattle.pnp_pairs.proofs.Leading.{Leads, leads_on, searches_on, stays, steps_on}
 use Rattle.pnp_pairs.proofs.Placing.{any_put, at_put, put, put_changed, those_put}
 use Rattle.pnp_pairs.proofs.Walking.{acts_next, in_phase, is_good, is_over, moves_on, starting, starts_all, walk_at}
+
+-- these drivers of the rack are those that the INFs name for the device: lower filters, its own, upper filters
+pub record IsChosen (settings : Settings) (rack : List Driver) (n : Node) (drivers : List ℕ) : Type 0 where
+  pub choice : Choice
+  pub best : settings.best n.hw n.compat ≡ Some choice
+  pub service : Text
+  pub has_service : choice.service ≡ Some service
+  pub few : nat_le (length choice.lower + 1 + length choice.upper) 16 ≡ true
+  pub lower : List ℕ
+  pub own : ℕ
+  pub upper : List ℕ
+  pub lower_are : tk.numbered rack choice.lower ≡ Some lower
+  pub own_is : driver_named service rack ≡ Some own
+  pub upper_are : tk.numbered rack choice.upper ≡ Some upper
+  pub all : drivers ≡ lower ++ own ∷ upper
 
 -- nobody else than before is found
 alike_found : {A : Type 0} (p q : A → Bool) → ((x : A) → p x ≡ q x) → (xs : List A) → find p xs ≡ find q xs

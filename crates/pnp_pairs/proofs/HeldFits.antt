@@ -31,6 +31,7 @@ held_beside k lo (n ∷ ns) r order c = by_test (is_beside (k ∷ []) n) refl (h
   where
     on : HeldBy k ns r → HeldBy k (n ∷ ns) r
     on more = record { holder = more.holder; node = more.node; at = tail_at lo n ns more.holder more.node order more.at; other = more.other; has_it = more.has_it }
+
     by_test : (b : Bool) → is_beside (k ∷ []) n ≡ b → (Contains (held_by (those (is_beside (k ∷ [])) ns)) r → HeldBy k ns r) → Contains (held_by (cond b (n ∷ those (is_beside (k ∷ [])) ns) (those (is_beside (k ∷ [])) ns))) r → HeldBy k (n ∷ ns) r
     by_test false e more h = on (more h)
     by_test true e more h =

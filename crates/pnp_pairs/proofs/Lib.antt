@@ -25,6 +25,7 @@ mod Enabling
 mod ChosenStacks
 mod PartSteps
 mod PartOperations
+mod PartEvents
 mod Parts
 mod HeldFits
 mod DisabledAndEnabled

@@ -291,11 +291,11 @@ module _ (before : Core) (kind : OpKind) (takes : TakesSet kind) (n : Node) (set
         others = subst (λ (x : List Node). Others x) (sym nodes) stays.others;
       }
 
-  happens : (s : State) (event : Event) → Stays s → Stays (ev.happens s event).state
-  happens s event stays = let out = happens_outside s event in answered s (ev.happens s event).state stays out.nodes out.operation
+  pub happens_stays : (s : State) (event : Event) → Stays s → Stays (ev.happens s event).state
+  happens_stays s event stays = let out = happens_outside s event in answered s (ev.happens s event).state stays out.nodes out.operation
 
   stays_goes : (settings : Settings) (s : State) (entry : Entry) (t : State) → Kept s → Stays s → IsWithin (Rattle.pnp_model.specs.Runs.printed entry) → Goes settings s entry t → Stays t
-  stays_goes settings s (Happens event label) t kept stays within goes = subst (λ (x : Step). Stays x.state) goes.1 (happens s event stays)
+  stays_goes settings s (Happens event label) t kept stays within goes = subst (λ (x : Step). Stays x.state) goes.1 (happens_stays s event stays)
   stays_goes settings s (Did label) t kept stays within goes = (stepped settings s (record { label = label; state = t }) kept stays goes).on within
   stays_goes settings s (Declines label) t kept stays within goes = absurd (let due = ap (λ (o : Option Job). ma.due_with s o) (sym stays.runs) ∙ goes.is_due in cc)
 

@@ -20,7 +20,7 @@ use Rattle.pnp_laws.proofs.Decides.{contains_here, contains_later}
 use Rattle.pnp_laws.proofs.Finishing.{relist_only}
 use Rattle.pnp_laws.proofs.Lookups.{Ascending-without, find_passes, left_from, node_found}
 use Rattle.pnp_laws.proofs.Stages.{OperationStep, RemovalAct, RemovalStep, SurpriseAct, SurpriseStep}
-use Rattle.pnp_pairs.proofs.PartSteps.{in_found}
+use Rattle.pnp_promises.proofs.LinesIdle.{found_in}
 
 -- the device that left, another device of its path in the world, and the node below which that one is to join
 pub record Relisted (s : State) (o : Job) (tasks : List Task) : Type 0 where
@@ -61,7 +61,7 @@ module _ (s : State) (o : Job) (order : Ascending 0 s.core.nodes) where
           node = node;
           first = first;
           other = d;
-          there = world d (in_found (λ (y : Device). same y.path node.path) x.world d found);
+          there = world d (found_in (λ (y : Device). same y.path node.path) x.world d found);
           path = find_passes (λ (y : Device). same y.path node.path) x.world d found;
           apart = λ z. (let q : d.born ≡ node.born = z in let w : (d.born == node.born) ≡ true = grind (arith, nat_tests) in let v = other in cc);
           over = over;

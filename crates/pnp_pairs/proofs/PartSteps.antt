@@ -38,6 +38,7 @@ use Rattle.pnp_laws.proofs.IdleSteps.{gone_is}
 use Rattle.pnp_laws.proofs.Lookups.{find_passes, first_is, found_self, joined_from, joined_keeps, node_changed_other, own_serial}
 use Rattle.pnp_laws.proofs.Passing.{AllBy, AllNext, all_step}
 use Rattle.pnp_laws.proofs.Truths.{and_both}
+use Rattle.pnp_promises.proofs.LinesIdle.{found_in}
 use Rattle.pnp_pairs.specs.Parts.{AreAtWork, IsApart, IsLocal, NamesMine, named}
 
 -- Lists ---------------------------------------------------------------------------------------------------------
@@ -46,7 +47,7 @@ pub in_dropped : {A : Type 0} (xs : List A) (x : A) → Contains (drop 1 xs) x �
 in_dropped [] x c = absurd (contains_nil x c)
 in_dropped (y ∷ ys) x c = contains_later y ys x c
 
-in_changed : {A : Type 0} (P : A → Type 0) (test : A → Bool) (f : A → A) → ((x : A) → P x → P (f x)) → (xs : List A) → ((x : A) → Contains xs x → P x) → (x : A) → Contains (changed_first test f xs) x → P x
+pub in_changed : {A : Type 0} (P : A → Type 0) (test : A → Bool) (f : A → A) → ((x : A) → P x → P (f x)) → (xs : List A) → ((x : A) → Contains xs x → P x) → (x : A) → Contains (changed_first test f xs) x → P x
 in_changed P test f keeps [] all x c = absurd (contains_nil x c)
 in_changed {A = A} P test f keeps (y ∷ ys) all x c = by_test (test y) c (in_changed P test f keeps ys (λ z d. all z (contains_later y ys z d)) x)
   where
@@ -76,14 +77,6 @@ in_put {A = A} test new (y ∷ ys) x c = by_test (test y) c (in_put test new ys 
 
 pub in_more : {A : Type 0} (xs : List A) (new x : A) → Contains (xs ++ new ∷ []) x → (x ≡ new) ⊎ Contains xs x
 in_more xs new x c = elim (Contains-append_cases xs (new ∷ []) x c) [ inl q ↦ inr q | inr q ↦ elim (contains_cons new [] x q) [ inl e ↦ inl e | inr none ↦ absurd (contains_nil x none) ] ]
-
-pub in_found : {A : Type 0} (test : A → Bool) (xs : List A) (x : A) → find test xs ≡ Some x → Contains xs x
-in_found test [] x h = absurd (cc)
-in_found {A = A} test (y ∷ ys) x h = by_test (test y) h (in_found test ys x)
-  where
-    by_test : (b : Bool) → cond b (Some y) (find test ys) ≡ Some x → (find test ys ≡ Some x → Contains ys x) → Contains (y ∷ ys) x
-    by_test true e more = let is : y ≡ x = cc in subst (λ (z : A). Contains (y ∷ ys) z) is (contains_here y ys)
-    by_test false e more = contains_later y ys x (more e)
 
 -- What a step is to be ------------------------------------------------------------------------------------------
 
@@ -358,7 +351,7 @@ module _ (mine : ℕ → Bool) (s : State) (apart : IsApart mine s) (work : AreA
     activity_next a (Some n) own e = acts_on n (found_self a.serial s.core.nodes n e) (own_at a.serial n e own) settings.budget a.phase
 
     idle_next : (o : Option Activity) → find ma.is_ready s.activities ≡ o → AllNext settings.budget P (ma.idle_next settings s o)
-    idle_next (Some a) e = activity_next a (node_at a.serial s.core.nodes) (work.starts a (in_found ma.is_ready s.activities a e)) refl
+    idle_next (Some a) e = activity_next a (node_at a.serial s.core.nodes) (work.starts a (found_in ma.is_ready s.activities a e)) refl
     idle_next None e = does_first (slice_get s.tasks 0) refl
 
     -- each step from here is of one of them

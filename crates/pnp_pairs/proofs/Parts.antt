@@ -5,15 +5,17 @@ use Rattle.std.proofs.lemmas.Bool.Decides.{nat_tests}
 use Rattle.device_ids.specs.Folding.{same}
 use Rattle.resource_reqs.proofs.Counts.{contains_cons, contains_nil}
 use Rattle.pnp_labels.specs.Texts.{Text}
+use Rattle.pnp_labels.specs.declared.event.Event.{Event}
 use Rattle.pnp_labels.specs.declared.label.Label.{Label}
 use Rattle.pnp_labels.specs.declared.label.OpKind.{OpKind}
 use Rattle.pnp_labels.specs.declared.label.OpEnd.{OpEnd}
 use Rattle.pnp_model.specs.Cores.{forget, node_at}
+use Rattle.pnp_model.specs.Events.{happens}
 use Rattle.pnp_model.specs.Keyed.{those}
 use Rattle.pnp_model.specs.Laws.{IsWithin}
 use Rattle.pnp_model.specs.Machine as ma
 use Rattle.pnp_model.specs.Records.{Activity, Core, Device, Driver, Duty, Job, Node, Relation, Settings, State, Step, Task, Walk}
-use Rattle.pnp_model.specs.Runs.{Entry, Goes, Run, opening}
+use Rattle.pnp_model.specs.Runs.{Entry, Goes}
 use Rattle.pnp_model.specs.Runs.Entry.{Happens, Did, Declines}
 use Rattle.pnp_model.specs.Tasks.{begin, joins}
 use Rattle.pnp_model.specs.Tests.{has}
@@ -24,6 +26,7 @@ use Rattle.pnp_laws.specs.Reached.{IsReached}
 use Rattle.pnp_laws.specs.Words.{joined}
 use Rattle.pnp_laws.proofs.Closures.{closed_in_all, grown_from, hangs_some}
 use Rattle.pnp_laws.proofs.Decides.{contains_here, contains_later}
+use Rattle.pnp_laws.proofs.EventChanges.{happens_outside}
 use Rattle.pnp_laws.proofs.EffectViews.{Origin, origin}
 use Rattle.pnp_laws.proofs.EffectsOf.{effect_goes}
 use Rattle.pnp_laws.proofs.Lists.{has_cases, head_found, head_has, member, those_found}
@@ -32,12 +35,14 @@ use Rattle.pnp_laws.proofs.Reaching.{reached_on}
 use Rattle.pnp_laws.proofs.RunsStand.{Kept, reaches_kept}
 use Rattle.pnp_laws.proofs.TreeMoves.{edge_cases}
 use Rattle.pnp_laws.proofs.Truths.{and_both, or_cases}
+use Rattle.pnp_promises.proofs.LinesIdle.{found_in}
 use Rattle.pnp_promises.proofs.Relations.{relations_go_with_drivers}
 use Rattle.pnp_pairs.specs.OwnSets.{IsInSet, IsOneOf, NamesOneOf, TakesSet}
-use Rattle.pnp_pairs.specs.Parts.{AllLocal, AreAtWork, IsApart, IsLocal, NamesMine, PartsStayApartLaw, named}
-use Rattle.pnp_pairs.proofs.OwnSets.{HasBegun, Stays, has_begun, stepped, taken}
-use Rattle.pnp_pairs.proofs.PartOperations.{Relisted, in_world_still, op_rest}
-use Rattle.pnp_pairs.proofs.PartSteps.{idle_mine, in_found, in_more}
+use Rattle.pnp_pairs.specs.Parts.{AreAtWork, IsApart, IsLocal, IsOfPart, NamesMine, PartsStayApartLaw, RunOfPart, named}
+use Rattle.pnp_pairs.proofs.OwnSets.{Stays, happens_stays, has_begun, stepped, taken}
+use Rattle.pnp_pairs.proofs.PartEvents.{event_mine}
+use Rattle.pnp_pairs.proofs.PartOperations.{in_world_still, op_rest}
+use Rattle.pnp_pairs.proofs.PartSteps.{idle_mine, in_dropped, in_more}
 
 -- Who is there after a step ------------------------------------------------------------------------------------
 
@@ -54,7 +59,7 @@ was s label t k _ (Origin.stacks x d ds name at acts prints) = Was.there x at re
 was s label t k _ (Origin.assigned x phase plan at acts search part now) = Was.there x at refl refl refl
 was s label t k _ (Origin.stripped x w at request prints) = Was.there x at refl refl refl
 was s label t k _ (Origin.commits r x runs course is at) = Was.there x at refl refl refl
-was s label t k _ (Origin.joins node d below gone own) = Was.new d (in_found (joins node.born s.core.nodes) s.world d below) refl refl own
+was s label t k _ (Origin.joins node d below gone own) = Was.new d (found_in (joins node.born s.core.nodes) s.world d below) refl refl own
 
 in_those : {A : Type 0} (test : A → Bool) (xs : List A) (x : A) → Contains (those test xs) x → Contains xs x
 in_those test [] x c = absurd (contains_nil x c)
@@ -94,6 +99,7 @@ module _ (settings : Settings) (rack : List Driver) (mine : ℕ → Bool) where
       by_below : (k : ℕ) (n : Node) → Was s k n → k ≢ 0 → mine n.parent ≡ true → mine k ≡ true
       by_below k n (Was.there x at parent born path) up over = apart.below k x at up (ap mine (sym parent) ∙ over)
       by_below k n (Was.new d c born path is) up over = apart.later k (omega arith)
+
       by_returns : (k j : ℕ) (n over : Node) (d : Device) → Was s k n → mine k ≡ true → Contains s.world d → same d.path n.path ≡ true → d.born ≢ n.born → Was s j over → over.born ≡ d.parent → mine j ≡ true
       by_returns k j n over d (Was.there x at parent born path) own c p other (Was.there y at2 parent2 born2 path2) under =
           apart.returns k j x y d at own c (ap (same d.path) (sym path) ∙ p) (λ e. other (e ∙ sym born)) at2 (sym born2 ∙ under)
@@ -279,15 +285,66 @@ module _ (settings : Settings) (rack : List Driver) (mine : ℕ → Bool) where
     goes_mine : NamesMine mine s label × Stands start t
     goes_mine = elim st.running [ inl none ↦ by_none none | inr o ↦ by_operation o ]
 
-  runs_mine : (start s : State) (entries : List Entry) (t : State) → Stands start s → Run settings s entries t → AllLocal entries → Stands start t
-  runs_mine start s [] t st run all = subst (λ (x : State). Stands start x) (sym run) st
-  runs_mine start s (Happens event label ∷ rest) t st run all = absurd all
-  runs_mine start s (Did label ∷ rest) t st (mid, goes, run) all = runs_mine start mid rest t (goes_mine start s label mid st goes all.0).1 run all.1
-  runs_mine start s (Declines label ∷ rest) t st run all = absurd all
+  -- an event of them
+  module _ (start s : State) (event : Event) (label : Label) (t : State) (st : Stands start s) (goes : Goes settings s (Happens event label) t) (own : IsOfPart mine s event) where
+    is : (happens s event).state ≡ t
+    is = ap (λ (x : Step). x.state) goes.1
+
+    by_running : (s.operation ≡ None) ⊎ OpOf s → ((happens s event).state.operation ≡ None) ⊎ OpOf (happens s event).state
+    by_running (inl none) =
+        elim (happens_outside s event).operation [
+          | inl e ↦ inl (e ∙ none)
+          | inr (ok, p, e, q) ↦ absurd (let z = sym none ∙ e in cc)
+        ]
+    by_running (inr o) =
+        inr (record {
+          before = o.before;
+          kind = o.kind;
+          takes = o.takes;
+          n = o.n;
+          set = o.set;
+          is_set = o.is_set;
+          stays = happens_stays o.before o.kind o.takes o.n o.set o.is_set s event o.stays;
+          inside = o.inside;
+        })
+
+    happens_mine : Stands start t
+    happens_mine =
+        let leaves = event_mine mine s st.apart st.tasks st.starts (reaches_kept settings rack st.reached.0 s st.reached.1).good.serials event own in
+        record {
+          reached = reached_on settings rack s (Happens event label) t st.reached goes;
+          apart = subst (IsApart mine) is leaves.apart;
+          others = λ j out. ap (λ (x : State). node_at j x.core.nodes) (sym is) ∙ ap (node_at j) (happens_outside s event).nodes ∙ st.others j out;
+          tasks = subst (λ (x : State). (task : Task) → Contains x.tasks task → mine task.serial ≡ true) is leaves.tasks;
+          starts = subst (λ (x : State). (a : Activity) → Contains x.activities a → mine a.serial ≡ true) is leaves.starts;
+          running = subst (λ (x : State). (x.operation ≡ None) ⊎ OpOf x) is (by_running st.running);
+        }
+
+  -- a client declines
+  declines_mine : (start s : State) (label : Label) (t : State) → Stands start s → Goes settings s (Declines label) t → Stands start t
+  declines_mine start s label t st goes =
+      record {
+        reached = reached_on settings rack s (Declines label) t st.reached goes;
+        apart = subst (IsApart mine) (sym goes.dropped) (record { later = st.apart.later; below = st.apart.below; members = st.apart.members; one_path = st.apart.one_path; returns = st.apart.returns });
+        others = λ j out. ap (λ (x : State). node_at j x.core.nodes) goes.dropped ∙ st.others j out;
+        tasks = λ task c. st.tasks task (in_dropped s.tasks task (subst (λ (x : State). Contains x.tasks task) goes.dropped c));
+        starts = λ a c. st.starts a (subst (λ (x : State). Contains x.activities a) goes.dropped c);
+        running =
+            elim st.running [
+              | inl none ↦ inl (ap (λ (x : State). x.operation) goes.dropped ∙ none)
+              | inr o ↦ absurd (let due = ap (λ (x : Option Job). ma.due_with s x) (sym o.stays.runs) ∙ goes.is_due in cc)
+            ];
+      }
+
+  runs_mine : (start s : State) (entries : List Entry) (t : State) → Stands start s → RunOfPart settings mine s entries t → Stands start t
+  runs_mine start s [] t st run = subst (λ (x : State). Stands start x) (sym run) st
+  runs_mine start s (Happens event label ∷ rest) t st (mid, goes, own, run) = runs_mine start mid rest t (happens_mine start s event label mid st goes own) run
+  runs_mine start s (Did label ∷ rest) t st (mid, goes, own, run) = runs_mine start mid rest t (goes_mine start s label mid st goes own).1 run
+  runs_mine start s (Declines label ∷ rest) t st (mid, goes, own, run) = runs_mine start mid rest t (declines_mine start s label mid st goes) run
 
 pub parts_stay_apart : PartsStayApartLaw
-parts_stay_apart settings rack earlier entries s t u label mine run apart work on all goes local =
+parts_stay_apart settings rack earlier entries s t u label mine run apart work on goes local =
     let first : Stands settings rack mine s s =
     record { reached = (earlier, run); apart = apart; others = λ j out. refl; tasks = work.tasks; starts = work.starts; running = inl work.none } in
-    let last = goes_mine settings rack mine s t label u (runs_mine settings rack mine s s entries t first on all) goes local in
+    let last = goes_mine settings rack mine s t label u (runs_mine settings rack mine s s entries t first on) goes local in
     (last.0, last.1.others, last.1.apart, λ none. record { none = none; tasks = last.1.tasks; starts = last.1.starts })

@@ -20,6 +20,7 @@ put_nodes m n f (x ∷ xs) e = by_test (is_node m.serial x) refl (put_nodes m n 
   where
     mine : is_node m.serial n ≡ true
     mine = grind (arith, nat_tests)
+
     by_test : (b : Bool) → is_node m.serial x ≡ b → changed_first (is_node m.serial) f (changed_first (is_node m.serial) (λ (z : Node). n) xs) ≡ changed_first (is_node m.serial) (λ (z : Node). f n) xs
         → changed_first (is_node m.serial) f (cond b (n ∷ xs) (x ∷ changed_first (is_node m.serial) (λ (z : Node). n) xs)) ≡ cond b (f n ∷ xs) (x ∷ changed_first (is_node m.serial) (λ (z : Node). f n) xs)
     by_test true q more = ap (λ (b : Bool). cond b (f n ∷ xs) (n ∷ changed_first (is_node m.serial) f xs)) mine
@@ -80,6 +81,7 @@ find_put p m n (x ∷ xs) at a found = by_test (is_node m.serial x) refl at (fin
         first : p x ≡ true → (b : Bool) → p x ≡ b → cond b (Some x) (find p xs) ≡ Some n → x ≡ n
         first h true r g = cc
         first h false r g = absurd (cc)
+
     by_test : (t : Bool) → is_node m.serial x ≡ t → cond t (Some x) (node_at m.serial xs) ≡ Some n
         → (node_at m.serial xs ≡ Some n → p m ≡ p n → find p xs ≡ Some n → find p (changed_first (is_node m.serial) (λ (z : Node). m) xs) ≡ Some m)
         → find p (cond t (m ∷ xs) (x ∷ changed_first (is_node m.serial) (λ (z : Node). m) xs)) ≡ Some m

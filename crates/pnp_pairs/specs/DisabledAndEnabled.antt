@@ -1,5 +1,5 @@
 -- Disable a device and enable it again: it is started with the same drivers, and all else is as it was.
-use Rattle.std.specs.Prelude.{ℕ, ◌+◌, ◌≡◌, ◌≢◌, true, false, List, [], ◌∷◌, ◌++◌, Some, None, find, length, nat_le, slice_get}
+use Rattle.std.specs.Prelude.{ℕ, ◌≡◌, ◌≢◌, false, List, [], ◌∷◌, Some, None, find, slice_get}
 use Rattle.std.specs.List.{AllByRecursion}
 use Rattle.resource_reqs.specs.Resources.{Res}
 use Rattle.resource_reqs.specs.Spelling.{IsAnswer}
@@ -8,17 +8,17 @@ use Rattle.pnp_labels.specs.Texts.{Text}
 use Rattle.pnp_labels.specs.declared.event.Event.{Event}
 use Rattle.pnp_labels.specs.declared.states.DevState.TheVariants.{Started}
 use Rattle.pnp_labels.specs.declared.words.AskWhat.{AskWhat}
-use Rattle.pnp_model.specs.Books.{book_of, driver_named, fits}
+use Rattle.pnp_model.specs.Books.{book_of, fits}
 use Rattle.pnp_model.specs.Cores.{forget, is_node}
 use Rattle.pnp_model.specs.Handles.{is_open}
 use Rattle.pnp_model.specs.Keyed.{changed_first}
 use Rattle.pnp_model.specs.Laws.{Reaches}
 use Rattle.pnp_model.specs.Machine.{IsQuiet}
-use Rattle.pnp_model.specs.Records.{Choice, Driver, Node, Settings, State}
+use Rattle.pnp_model.specs.Records.{Driver, Node, Settings, State}
 use Rattle.pnp_model.specs.Runs.{Entry, Run}
 use Rattle.pnp_model.specs.Starts.{own_part, own_problem}
 use Rattle.pnp_model.specs.States.{node_of}
-use Rattle.pnp_model.specs.Tasks.{joining, numbered}
+use Rattle.pnp_model.specs.Tasks.{joining}
 use Rattle.pnp_model.specs.Tests.{has_same}
 use Rattle.pnp_model.specs.Trees.{dependents}
 use Rattle.pnp_promises.specs.Later.{NoneDeclined, happened}
@@ -33,21 +33,6 @@ pub record IsStill (s : State) : Type 0 where
 abbrev pub HasNoRule : List Driver → Text → ℕ → Type 0
 HasNoRule rack path d = (what : AskWhat) → find (fits what path) (book_of (slice_get rack d)) ≡ None
 
--- these drivers of the rack are those that the INFs name for the device: lower filters, its own, upper filters
-pub record IsChosen (settings : Settings) (rack : List Driver) (n : Node) (drivers : List ℕ) : Type 0 where
-  pub choice : Choice
-  pub best : settings.best n.hw n.compat ≡ Some choice
-  pub service : Text
-  pub has_service : choice.service ≡ Some service
-  pub few : nat_le (length choice.lower + 1 + length choice.upper) 16 ≡ true
-  pub lower : List ℕ
-  pub own : ℕ
-  pub upper : List ℕ
-  pub lower_are : numbered rack choice.lower ≡ Some lower
-  pub own_is : driver_named service rack ≡ Some own
-  pub upper_are : numbered rack choice.upper ≡ Some upper
-  pub all : drivers ≡ lower ++ own ∷ upper
-
 -- The device of the path is Started and can be taken out alone: it is not the root, nothing depends on it or is to join below it, no handle
 -- to it is open, its drivers agree to all that is asked for it, and the search of its resources stays within the budget.
 pub record StandsAlone (settings : Settings) (s : State) (path : Text) (n : Node) : Type 0 where
@@ -59,7 +44,6 @@ pub record StandsAlone (settings : Settings) (s : State) (path : Text) (n : Node
   pub none_joins : joining n.born s.core.nodes s.world ≡ None
   pub shut : is_open s.handles n.serial ≡ false
   pub agree : AllByRecursion (HasNoRule s.core.rack n.path) n.stack
-  pub chosen : IsChosen settings s.core.rack n n.stack
   pub in_budget : IsAnswer (own_problem s.core n).fixed (own_problem s.core n).movers settings.budget spent → ⊥
 
 -- what is found for the device alone, beside all that others hold and what is reserved: the first that fits

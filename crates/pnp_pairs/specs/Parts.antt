@@ -2,13 +2,15 @@
 use Rattle.std.specs.Prelude.{ℕ, ◌≤◌, ◌≡◌, ◌≢◌, Bool, true, false, List, [], ◌∷◌, Option, Some, None, Contains}
 use Rattle.device_ids.specs.Folding.{same}
 use Rattle.pnp_labels.specs.Texts.{Text}
+use Rattle.pnp_labels.specs.declared.event.Event.{Event}
 use Rattle.pnp_labels.specs.declared.label.Label.{Label}
 use Rattle.pnp_labels.specs.declared.label.OpKind.{OpKind}
 use Rattle.pnp_model.specs.Cores.{node_at}
 use Rattle.pnp_model.specs.Laws.{Reaches}
 use Rattle.pnp_model.specs.Records.{Activity, Device, Driver, Node, Relation, Settings, State, Task}
-use Rattle.pnp_model.specs.Runs.{Entry, Goes, Run}
+use Rattle.pnp_model.specs.Runs.{Entry, Goes}
 use Rattle.pnp_model.specs.Runs.Entry.{Happens, Did, Declines}
+use Rattle.pnp_model.specs.States.{device_of, node_of}
 
 -- Some devices, by their serials, with all that join later. Who is below one of them, or related to one as its member, is one of them. And where
 -- a device stands in the world under the path of one of them, but is another, it stands below one of them.
@@ -33,11 +35,30 @@ IsLocal (Label.Begin OpKind.Change path) = ⊥
 IsLocal (Label.Begin OpKind.Finish path) = ⊥
 IsLocal label = Unit {0}
 
--- nothing happens from outside, and only local operations begin
-abbrev pub AllLocal : List Entry → Type 0
-AllLocal [] = Unit {0}
-AllLocal (Did label ∷ rest) = IsLocal label × AllLocal rest
-AllLocal (entry ∷ rest) = ⊥
+-- what happens is of them: the device that is to be listed, to be started, or to be stopped or removed is one of them, and who is related as a
+-- member to one of them is one of them
+abbrev pub IsOfPart : (ℕ → Bool) → State → Event → Type 0
+IsOfPart mine s (Event.Plug parent path hw compat reqs) =
+    (d : Device) (k : ℕ) (n : Node) → device_of parent s.world ≡ Some d → node_at k s.core.nodes ≡ Some n → n.born ≡ d.born → mine k ≡ true
+IsOfPart mine s (Event.Pull path) = (d : Device) (k : ℕ) (n : Node) → device_of path s.world ≡ Some d → node_at k s.core.nodes ≡ Some n → n.born ≡ d.parent → mine k ≡ true
+IsOfPart mine s (Event.Disable path) = (n : Node) → node_of path s.core.nodes ≡ Some n → mine n.serial ≡ true
+IsOfPart mine s (Event.Enable path) = (n : Node) → node_of path s.core.nodes ≡ Some n → mine n.serial ≡ true
+IsOfPart mine s (Event.Eject path) = (n : Node) → node_of path s.core.nodes ≡ Some n → mine n.serial ≡ true
+IsOfPart mine s (Event.Change path reqs) = (n : Node) → node_of path s.core.nodes ≡ Some n → mine n.serial ≡ true
+IsOfPart mine s (Event.CloseHandle path) = (n : Node) → node_of path s.core.nodes ≡ Some n → mine n.serial ≡ true
+IsOfPart mine s (Event.Relate kind owner member) =
+    (a b : Node) → node_of owner s.core.nodes ≡ Some a → node_of member s.core.nodes ≡ Some b → mine a.serial ≡ true → mine b.serial ≡ true
+IsOfPart mine s event = Unit {0}
+
+-- a run in which what happens is of them, and only local operations begin
+abbrev pub IsEntryOf : (ℕ → Bool) → State → Entry → Type 0
+IsEntryOf mine s (Happens event label) = IsOfPart mine s event
+IsEntryOf mine s (Did label) = IsLocal label
+IsEntryOf mine s (Declines label) = Unit {0}
+
+abbrev pub RunOfPart : Settings → (ℕ → Bool) → State → List Entry → State → Type 0
+RunOfPart settings mine old [] new = new ≡ old
+RunOfPart settings mine old (entry ∷ rest) new = (mid : State) × Goes settings old entry mid × IsEntryOf mine old entry × RunOfPart settings mine mid rest new
 
 -- the device that a line names; the device of an end may have left
 abbrev pub named : Label → Option Text
@@ -63,10 +84,10 @@ named label = None
 abbrev pub NamesMine : (ℕ → Bool) → State → Label → Type 0
 NamesMine mine s label = (path : Text) → named label ≡ Some path → (n : Node) × (node_at n.serial s.core.nodes ≡ Some n) × (n.path ≡ path) × (mine n.serial ≡ true)
 
--- So, from a state in which all that is under way is of them, each line up to the next event names one of them, nobody else changes, and when no
--- operation runs all that is under way is of them again, and they stand apart.
+-- So, from a state in which all that is under way is of them, while what happens is of them, each line names one of them, nobody else changes, and
+-- when no operation runs all that is under way is of them again, and they stand apart.
 abbrev pub PartsStayApartLaw : Type 0
 PartsStayApartLaw =
     (settings : Settings) (rack : List Driver) (earlier entries : List Entry) (s t u : State) (label : Label) (mine : ℕ → Bool)
-    → Reaches settings rack earlier s → IsApart mine s → AreAtWork mine s → Run settings s entries t → AllLocal entries → Goes settings t (Did label) u → IsLocal label
+    → Reaches settings rack earlier s → IsApart mine s → AreAtWork mine s → RunOfPart settings mine s entries t → Goes settings t (Did label) u → IsLocal label
     → NamesMine mine t label × ((j : ℕ) → mine j ≡ false → node_at j u.core.nodes ≡ node_at j s.core.nodes) × IsApart mine u × (u.operation ≡ None → AreAtWork mine u)

@@ -69,8 +69,9 @@ pub fn disabled_and_enabled_is_as_before()
     ensures { DisabledAndEnabledLaw }
 {}
 
-/// A part of the tree stays by itself: while all that is under way is of some devices, on which nobody else hangs, each line names one of
-/// them, nobody else changes, and what is under way then is of them again; but where an operation begins that looks at all devices.
+/// A part of the tree stays by itself: where all that is under way is of some devices, on which nobody else hangs, and while what happens is
+/// of them, each line names one of them, nobody else changes, and what is under way then is of them again; but where an operation begins that
+/// looks at all devices.
 pub fn parts_stay_apart()
     ensures { PartsStayApartLaw }
 {}
