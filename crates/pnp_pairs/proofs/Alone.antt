@@ -13,7 +13,7 @@ use Rattle.pnp_laws.proofs.Lists.{has_cases, those_found}
 use Rattle.pnp_laws.proofs.Orders.{Ranked, RootFree, leaving_fits, order_all, order_has}
 use Rattle.pnp_laws.proofs.Truths.{and_both, both_true, or_left}
 
-none_of : (p q : Node → Bool) → ((x : Node) → p x ≡ true → q x ≡ true) → (ns : List Node) → those q ns ≡ [] → those p ns ≡ []
+pub none_of : (p q : Node → Bool) → ((x : Node) → p x ≡ true → q x ≡ true) → (ns : List Node) → those q ns ≡ [] → those p ns ≡ []
 none_of p q more [] none = refl
 none_of p q more (x ∷ xs) none = by_tests (p x) (q x) refl refl none (none_of p q more xs)
   where
@@ -29,7 +29,7 @@ one_left k (j ∷ []) all own last = ap (λ (i : ℕ). i ∷ []) last
 one_left k (j ∷ i ∷ xs) all own last = absurd (last.0 (all j (grind (arith, nat_tests))))
 
 module _ (c : Core) (n : Node) (order : Ascending 0 c.nodes) (nobody : dependents c n.serial ≡ []) where
-  none_hangs : those (hangs_on c (n.serial ∷ [])) c.nodes ≡ []
+  pub none_hangs : those (hangs_on c (n.serial ∷ [])) c.nodes ≡ []
   none_hangs = by_list (those (hangs_on c (n.serial ∷ [])) c.nodes) refl
     where
       by_list : (xs : List Node) → those (hangs_on c (n.serial ∷ [])) c.nodes ≡ xs → xs ≡ []

@@ -94,7 +94,7 @@ steps_declined (Declines label ∷ xs) ys only none = absurd only
 -- The run ------------------------------------------------------------------------------------------------------
 
 -- nothing is under way in it
-is_resting : (s : State) → IsStill s → s ≡ rests s
+pub is_resting : (s : State) → IsStill s → s ≡ rests s
 is_resting s still =
     ap (λ o. record s { operation = o }) still.none
     ∙ ap (λ xs. record s { operation = None; activities = xs }) still.idle
@@ -147,16 +147,16 @@ anew_is s n holds still up at =
     ∙ ap (λ (z : State). let y : State = record z { core = core (changed_first (is_node n.serial) f c.nodes) } in y) (sym (is_resting s still))
 
 module _ (settings : Settings) (rack : List Driver) (earlier : List Entry) (s : State) (path : Text) (n : Node) (run : Reaches settings rack earlier s) (still : IsStill s) (alone : StandsAlone settings s path n) where
-  abbrev k : ℕ
+  abbrev pub k : ℕ
   k = n.serial
 
   good : Kept s
   good = reaches_kept settings rack earlier s run
 
-  order : Ascending 0 s.core.nodes
+  pub order : Ascending 0 s.core.nodes
   order = good.good.serials
 
-  at : node_at k s.core.nodes ≡ Some n
+  pub at : node_at k s.core.nodes ≡ Some n
   at = (node_found (λ (x : Node). same x.path path) 0 s.core.nodes n order alone.named).1
 
   below : n.parent ≢ k
@@ -169,23 +169,23 @@ module _ (settings : Settings) (rack : List Driver) (earlier : List Entry) (s : 
       by_stack [] e = absurd (let none : n.state ≡ NoStack = ((stacks_fit settings rack earlier s run).empty k n at alone.no_root).0 e in let z = sym alone.up ∙ none in cc)
       by_stack (d ∷ ds) e = (d, ds, e)
 
-  found : (plan : List (List Res)) × IsAnswer (own_problem s.core n).fixed (own_problem s.core n).movers settings.budget (assignment plan)
+  pub found : (plan : List (List Res)) × IsAnswer (own_problem s.core n).fixed (own_problem s.core n).movers settings.budget (assignment plan)
   found =
       finds_some s.core n order (nothing_clashes settings rack earlier s run) at ((all_hold_whole settings rack earlier s run).up k n at (ap is_up_to_now alone.up)) settings.budget alone.in_budget
 
   chosen : IsChosen settings s.core.rack n n.stack
   chosen = is_chosen settings rack s n (earlier, run) still.idle alone.no_root at (λ e. (let z = sym e ∙ some_drivers.2 in cc))
 
-  abbrev holds : List Res
+  abbrev pub holds : List Res
   holds = own_part found.0
 
-  abbrev apart : List Relation
+  abbrev pub apart : List Relation
   apart = forget k s.core.relations
 
   abbrev out : State
   out = record (stood (disabled n) apart s) { disabled = s.disabled ++ n.path ∷ [] }
 
-  abbrev end : State
+  abbrev pub end : State
   end = stood (with_all n n.stack Started holds) apart s
 
   goes_out : Leads settings (owes (Duty.Begins OpKind.Disable) k s) out
@@ -200,10 +200,10 @@ module _ (settings : Settings) (rack : List Driver) (earlier : List Entry) (s : 
   abbrev second : List Entry
   second = Happens (Event.Enable path) (Label.Did (Deed.Enabled n.path)) ∷ comes_back.entries
 
-  abbrev cycle : List Entry
+  abbrev pub cycle : List Entry
   cycle = Happens (Event.Disable path) (Label.Did (Deed.Disabled n.path)) ∷ (goes_out.entries ++ second)
 
-  cycled : Run settings s cycle end
+  pub cycled : Run settings s cycle end
   cycled =
       subst (λ (x : State). Run settings x cycle end) (sym (is_resting s still)) (
         owes (Duty.Begins OpKind.Disable) k s,
@@ -212,12 +212,12 @@ module _ (settings : Settings) (rack : List Driver) (earlier : List Entry) (s : 
             (owes Duty.Starting k (stood (disabled n) apart s), (refl, enable_is settings s path n alone at (disabled n) apart refl refl), comes_back.run),
       )
 
-  cycle_happened : happened cycle ≡ Event.Disable path ∷ Event.Enable path ∷ []
+  pub cycle_happened : happened cycle ≡ Event.Disable path ∷ Event.Enable path ∷ []
   cycle_happened =
       ap (λ (xs : List Event). Event.Disable path ∷ xs)
       (steps_happened goes_out.entries second goes_out.steps ∙ ap (λ (xs : List Event). Event.Enable path ∷ xs) (ap happened (sym (nil_end comes_back.entries)) ∙ steps_happened comes_back.entries [] comes_back.steps))
 
-  cycle_declined : NoneDeclined cycle
+  pub cycle_declined : NoneDeclined cycle
   cycle_declined = steps_declined goes_out.entries second goes_out.steps (subst NoneDeclined (nil_end comes_back.entries) (steps_declined comes_back.entries [] comes_back.steps tt))
 
 pub disabled_and_enabled : DisabledAndEnabledLaw

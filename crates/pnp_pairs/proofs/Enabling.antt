@@ -50,7 +50,7 @@ pub record IsChosen (settings : Settings) (rack : List Driver) (n : Node) (drive
   pub all : drivers ≡ lower ++ own ∷ upper
 
 -- nobody else than before is found
-alike_found : {A : Type 0} (p q : A → Bool) → ((x : A) → p x ≡ q x) → (xs : List A) → find p xs ≡ find q xs
+pub alike_found : {A : Type 0} (p q : A → Bool) → ((x : A) → p x ≡ q x) → (xs : List A) → find p xs ≡ find q xs
 alike_found p q alike [] = refl
 alike_found {A = A} p q alike (x ∷ xs) = ap₂ (λ (b : Bool) (o : Option A). cond b (Some x) o) (alike x) (alike_found p q alike xs)
 

@@ -29,3 +29,4 @@ mod PartEvents
 mod Parts
 mod HeldFits
 mod DisabledAndEnabled
+mod TwiceAsOnce

@@ -68,3 +68,11 @@ DisabledAndEnabledLaw =
     (settings : Settings) (rack : List Driver) (earlier entries : List Entry) (s t : State) (path : Text) (n : Node)
     → Reaches settings rack earlier s → IsStill s → StandsAlone settings s path n → Run settings s entries t → NoneDeclined entries → IsQuiet settings t
     → happened entries ≡ Event.Disable path ∷ Event.Enable path ∷ [] → (holds : List Res) × IsFirstFit settings s n holds × (t ≡ with_anew n holds s)
+
+-- So doing it twice is as doing it once.
+abbrev pub TwiceIsAsOnceLaw : Type 0
+TwiceIsAsOnceLaw =
+    (settings : Settings) (rack : List Driver) (earlier once again : List Entry) (s t u : State) (path : Text) (n : Node)
+    → Reaches settings rack earlier s → IsStill s → StandsAlone settings s path n
+    → Run settings s once t → NoneDeclined once → IsQuiet settings t → happened once ≡ Event.Disable path ∷ Event.Enable path ∷ []
+    → Run settings t again u → NoneDeclined again → IsQuiet settings u → happened again ≡ Event.Disable path ∷ Event.Enable path ∷ [] → u ≡ t

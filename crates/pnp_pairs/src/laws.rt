@@ -1,6 +1,6 @@
 //! What holds of two runs of the device machine.
 
-ghost use Rattle.pnp_pairs.specs.DisabledAndEnabled.{DisabledAndEnabledLaw};
+ghost use Rattle.pnp_pairs.specs.DisabledAndEnabled.{DisabledAndEnabledLaw, TwiceIsAsOnceLaw};
 ghost use Rattle.pnp_pairs.specs.OwnSets.{OperationsStayInTheirSetLaw};
 ghost use Rattle.pnp_pairs.specs.Parts.{PartsStayApartLaw};
 ghost use Rattle.pnp_pairs.specs.Renaming.{RenamingOnlyRenamesLaw, RenamedEndsAlikeLaw, RenamingRenamesLaw};
@@ -67,6 +67,11 @@ pub fn operations_stay_in_their_set()
 /// to rest as it was, and the device is Started with the same drivers; but it holds what a search finds first, and its relations are gone.
 pub fn disabled_and_enabled_is_as_before()
     ensures { DisabledAndEnabledLaw }
+{}
+
+/// So doing it twice is as doing it once.
+pub fn twice_is_as_once()
+    ensures { TwiceIsAsOnceLaw }
 {}
 
 /// A part of the tree stays by itself: where all that is under way is of some devices, on which nobody else hangs, and while what happens is
