@@ -150,7 +150,7 @@ module _ (settings : Settings) (rack : List Driver) (earlier : List Entry) (s : 
   abbrev pub k : ℕ
   k = n.serial
 
-  good : Kept s
+  pub good : Kept s
   good = reaches_kept settings rack earlier s run
 
   pub order : Ascending 0 s.core.nodes
@@ -159,10 +159,10 @@ module _ (settings : Settings) (rack : List Driver) (earlier : List Entry) (s : 
   pub at : node_at k s.core.nodes ≡ Some n
   at = (node_found (λ (x : Node). same x.path path) 0 s.core.nodes n order alone.named).1
 
-  below : n.parent ≢ k
+  pub below : n.parent ≢ k
   below e = let low = ((keyed settings rack earlier s run).parents k n at alone.no_root).2 in omega arith
 
-  some_drivers : (d : ℕ) × (ds : List ℕ) × (n.stack ≡ d ∷ ds)
+  pub some_drivers : (d : ℕ) × (ds : List ℕ) × (n.stack ≡ d ∷ ds)
   some_drivers = by_stack n.stack refl
     where
       by_stack : (xs : List ℕ) → n.stack ≡ xs → (d : ℕ) × (ds : List ℕ) × (n.stack ≡ d ∷ ds)
@@ -173,7 +173,7 @@ module _ (settings : Settings) (rack : List Driver) (earlier : List Entry) (s : 
   found =
       finds_some s.core n order (nothing_clashes settings rack earlier s run) at ((all_hold_whole settings rack earlier s run).up k n at (ap is_up_to_now alone.up)) settings.budget alone.in_budget
 
-  chosen : IsChosen settings s.core.rack n n.stack
+  pub chosen : IsChosen settings s.core.rack n n.stack
   chosen = is_chosen settings rack s n (earlier, run) still.idle alone.no_root at (λ e. (let z = sym e ∙ some_drivers.2 in cc))
 
   abbrev pub holds : List Res
@@ -182,22 +182,22 @@ module _ (settings : Settings) (rack : List Driver) (earlier : List Entry) (s : 
   abbrev pub apart : List Relation
   apart = forget k s.core.relations
 
-  abbrev out : State
+  abbrev pub out : State
   out = record (stood (disabled n) apart s) { disabled = s.disabled ++ n.path ∷ [] }
 
   abbrev pub end : State
   end = stood (with_all n n.stack Started holds) apart s
 
-  goes_out : Leads settings (owes (Duty.Begins OpKind.Disable) k s) out
+  pub goes_out : Leads settings (owes (Duty.Begins OpKind.Disable) k s) out
   goes_out =
       disables settings s n some_drivers.0 some_drivers.1 some_drivers.2 at alone.up below (enabled settings s path n alone at)
       (leaves_alone s.core n order alone.nobody good.stands.tree.rank good.stands.tree.ranked good.stands.tree.free at alone.no_root) alone.shut alone.agree
 
-  comes_back : Leads settings (owes Duty.Starting k (stood (disabled n) apart s)) end
+  pub comes_back : Leads settings (owes Duty.Starting k (stood (disabled n) apart s)) end
   comes_back =
       starts_again settings s n some_drivers.0 some_drivers.1 some_drivers.2 at below apart (enabled settings s path n alone at) (childless s.core n order alone.nobody) alone.none_joins alone.agree chosen found.0 found.1
 
-  abbrev second : List Entry
+  abbrev pub second : List Entry
   second = Happens (Event.Enable path) (Label.Did (Deed.Enabled n.path)) ∷ comes_back.entries
 
   abbrev pub cycle : List Entry

@@ -5,7 +5,7 @@ use Rattle.std.proofs.lemmas.Bool.Decides.{nat_tests}
 use Rattle.device_ids.specs.Folding.{same}
 use Rattle.resource_reqs.specs.Resources.{Res}
 use Rattle.resource_reqs.specs.Spelling.{IsAnswer}
-use Rattle.resource_reqs.specs.Spelling.Answer.{Answer, assignment, spent}
+use Rattle.resource_reqs.specs.Spelling.Answer.{assignment, spent}
 use Rattle.resource_reqs.proofs.Answering.{answer_one}
 use Rattle.pnp_labels.specs.Texts.{Text}
 use Rattle.pnp_labels.specs.declared.states.DevState.TheVariants.{Started}
