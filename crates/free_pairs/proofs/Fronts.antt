@@ -16,7 +16,8 @@ use Rattle.free_model.specs.Shapes.{faces}
 use Rattle.free_model.proofs.Quiets.{quiet_same}
 use Rattle.free_model.proofs.SameQueries.{query_same}
 use Rattle.free_pairs.specs.Alike.{GoesBeyond, more_happened, more_answered, rests, asks}
-use Rattle.free_pairs.specs.Answers.{answer, answers, happened}
+use Rattle.pnp_promises.specs.Later.{happened}
+use Rattle.free_pairs.specs.Answers.{answer, answers}
 use Rattle.free_pairs.proofs.Asked.{asks_tell, no_more, tells_ask, tells_is_ask}
 use Rattle.free_pairs.proofs.Happenings.{twin_happens}
 use Rattle.free_pairs.proofs.Loose.{LooseRun, from_twin}

@@ -14,7 +14,8 @@ use Rattle.free_model.specs.Runs.{FreeRun, IsUntaught, and_then, without_teachin
 use Rattle.free_model.specs.Shapes.{faces}
 use Rattle.free_model.proofs.Answered.{Sort, teaches, other, sort}
 use Rattle.free_model.proofs.Racks.{faces_told}
-use Rattle.free_pairs.specs.Answers.{NoneDeclined, answer, answers}
+use Rattle.pnp_promises.specs.Later.{NoneDeclined}
+use Rattle.free_pairs.specs.Answers.{answer, answers}
 use Rattle.free_pairs.proofs.Happenings.{taught}
 use Rattle.free_pairs.proofs.Twins.{Twins, faces_kept}
 

@@ -17,7 +17,8 @@ use Rattle.free_model.specs.Asks.{Query, next_query}
 use Rattle.free_model.specs.Frees.{free_opening, with_rack}
 use Rattle.free_model.specs.Runs.{FreeRun, without_teaching}
 use Rattle.free_model.specs.Shapes.{faces}
-use Rattle.free_pairs.specs.Answers.{NoneDeclined, answers, happened}
+use Rattle.pnp_promises.specs.Later.{NoneDeclined, happened}
+use Rattle.free_pairs.specs.Answers.{answers}
 
 -- one state but for the books of its drivers
 pub record AreAlike (s t : State) : Type 0 where

@@ -8,7 +8,7 @@ use Rattle.pnp_model.specs.Records.{Doing, Settings, State, Step}
 use Rattle.pnp_model.specs.Runs.{Entry, Run}
 use Rattle.pnp_model.specs.Runs.Entry.{Happens, Did, Declines}
 use Rattle.pnp_model.proofs.Determined.{one_label, one_state}
-use Rattle.pnp_pairs.specs.Renaming.{NoneDeclined, happened}
+use Rattle.pnp_promises.specs.Later.{NoneDeclined, happened}
 
 module _ (settings : Settings) where
   -- where nothing is next, no step is

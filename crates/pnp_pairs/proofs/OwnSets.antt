@@ -12,9 +12,9 @@ use Rattle.pnp_model.specs.Events as ev
 use Rattle.pnp_model.specs.Frames.{ended, first_node, rest, state_label}
 use Rattle.pnp_model.specs.Jobs.{Beside, JobMove, stands}
 use Rattle.pnp_model.specs.Keyed.{changed_first, without_first}
-use Rattle.pnp_model.specs.Laws.{AllWithin, IsWithin}
+use Rattle.pnp_model.specs.Laws.{AllWithin, IsWithin, Reaches}
 use Rattle.pnp_model.specs.Machine as ma
-use Rattle.pnp_model.specs.Records.{Core, Course, Job, Node, Settings, Stage, State, Step, Walk, course_of}
+use Rattle.pnp_model.specs.Records.{Core, Course, Driver, Job, Node, Settings, Stage, State, Step, Walk, course_of}
 use Rattle.pnp_model.specs.Removals as rm
 use Rattle.pnp_model.specs.Runs.{Entry, Goes, Run}
 use Rattle.pnp_model.specs.Runs.Entry.{Happens, Did, Declines}
@@ -108,22 +108,22 @@ runs_on j Beside.OverUndo c s on = absurd on
 
 module _ (before : Core) (kind : OpKind) (takes : TakesSet kind) (n : Node) (set : List ℕ) (is_set : (j : ℕ) → (has set j ≡ true) ↔ IsInSet before n j) where
   -- all others are as they were
-  abbrev Others : List Node → Type 0
+  abbrev pub Others : List Node → Type 0
   Others nodes = (j : ℕ) → has set j ≡ false → node_at j nodes ≡ node_at j before.nodes
 
   -- the operation runs, and all others are as they were
-  record Stays (s : State) : Type 0 where
-    operation : Job
-    runs : s.operation ≡ Some operation
-    own_kind : operation.kind ≡ kind
-    own_path : operation.path ≡ n.path
-    own_set : operation.set ≡ set
-    others : Others s.core.nodes
+  pub record Stays (s : State) : Type 0 where
+    pub operation : Job
+    pub runs : s.operation ≡ Some operation
+    pub own_kind : operation.kind ≡ kind
+    pub own_path : operation.path ≡ n.path
+    pub own_set : operation.set ≡ set
+    pub others : Others s.core.nodes
 
-  record Stepped (s : State) (step : Step) : Type 0 where
-    names : NamesOneOf before kind n s step.label
-    others : Others step.state.core.nodes
-    on : IsWithin step.label → Stays step.state
+  pub record Stepped (s : State) (step : Step) : Type 0 where
+    pub names : NamesOneOf before kind n s step.label
+    pub others : Others step.state.core.nodes
+    pub on : IsWithin step.label → Stays step.state
 
   module _ (s : State) (o : Job) (own_kind : o.kind ≡ kind) (own_path : o.path ≡ n.path) (own_set : o.set ≡ set) (old : Others s.core.nodes) where
     -- the operation goes on by a move
@@ -244,7 +244,7 @@ module _ (before : Core) (kind : OpKind) (takes : TakesSet kind) (n : Node) (set
     op_step _ within (OperationStep.rebalances stage m course is x) = absurd (elim (no_other Course.Rebalancing course) [ inl e ↦ cc | inr e ↦ cc ])
     op_step _ within (OperationStep.finishes stage m course is x) = absurd (elim (no_other Course.Finishing course) [ inl e ↦ cc | inr e ↦ cc ])
 
-  stepped : (settings : Settings) (s : State) (step : Step) → Kept s → Stays s → ma.IsStep settings (ma.next settings s) step → Stepped s step
+  pub stepped : (settings : Settings) (s : State) (step : Step) → Kept s → Stays s → ma.IsStep settings (ma.next settings s) step → Stepped s step
   stepped settings s step kept stays is =
       let taken = operation_step settings s stays.operation step stays.runs is in
       let same = turn_same s stays.operation taken.now taken.turn in
@@ -253,6 +253,28 @@ module _ (before : Core) (kind : OpKind) (takes : TakesSet kind) (n : Node) (set
       let own_path = same.path ∙ stays.own_path in
       let own_set = same.set ∙ stays.own_set in
       op_step s taken.now own_kind own_path own_set stays.others step (within_set s taken.now own_kind own_path own_set stays.others fits) (own_step s taken.now step fits taken.is)
+
+  -- what its step is of, and that its next device is of the set
+  pub record Taken (s : State) (step : Step) : Type 0 where
+    pub now : Job
+    pub course : (course_of now.kind ≡ Course.Removing) ⊎ (course_of now.kind ≡ Course.Surprising)
+    pub is : OperationStep s now step
+    pub within : Within now.todo set
+
+  pub taken : (settings : Settings) (s : State) (step : Step) → Kept s → Stays s → ma.IsStep settings (ma.next settings s) step → Taken s step
+  taken settings s step kept stays is =
+      let takes_next = operation_step settings s stays.operation step stays.runs is in
+      let same = turn_same s stays.operation takes_next.now takes_next.turn in
+      let fits = (running_good s takes_next.now (record { before = stays.operation; runs = stays.runs; turn = takes_next.turn }) kept.good).fits in
+      let own_kind = same.kind ∙ stays.own_kind in
+      let own_path = same.path ∙ stays.own_path in
+      let own_set = same.set ∙ stays.own_set in
+      record {
+        now = takes_next.now;
+        course = course_cases s takes_next.now own_kind own_path own_set stays.others;
+        is = own_step s takes_next.now step fits takes_next.is;
+        within = subst (λ (ks : List ℕ). Within takes_next.now.todo ks) own_set (within_set s takes_next.now own_kind own_path own_set stays.others fits);
+      }
 
   -- an event answers the operation's request at most
   answered : (s t : State) → Stays s → t.core.nodes ≡ s.core.nodes → Answered s.operation t.operation → Stays t
@@ -269,11 +291,11 @@ module _ (before : Core) (kind : OpKind) (takes : TakesSet kind) (n : Node) (set
         others = subst (λ (x : List Node). Others x) (sym nodes) stays.others;
       }
 
-  happens : (s : State) (event : Event) → Stays s → Stays (ev.happens s event).state
-  happens s event stays = let out = happens_outside s event in answered s (ev.happens s event).state stays out.nodes out.operation
+  pub happens_stays : (s : State) (event : Event) → Stays s → Stays (ev.happens s event).state
+  happens_stays s event stays = let out = happens_outside s event in answered s (ev.happens s event).state stays out.nodes out.operation
 
   stays_goes : (settings : Settings) (s : State) (entry : Entry) (t : State) → Kept s → Stays s → IsWithin (Rattle.pnp_model.specs.Runs.printed entry) → Goes settings s entry t → Stays t
-  stays_goes settings s (Happens event label) t kept stays within goes = subst (λ (x : Step). Stays x.state) goes.1 (happens s event stays)
+  stays_goes settings s (Happens event label) t kept stays within goes = subst (λ (x : Step). Stays x.state) goes.1 (happens_stays s event stays)
   stays_goes settings s (Did label) t kept stays within goes = (stepped settings s (record { label = label; state = t }) kept stays goes).on within
   stays_goes settings s (Declines label) t kept stays within goes = absurd (let due = ap (λ (o : Option Job). ma.due_with s o) (sym stays.runs) ∙ goes.is_due in cc)
 
@@ -303,26 +325,42 @@ takes_set s OpKind.Eject n o t takes = takes
 takes_set s OpKind.Surprise n o t takes = takes
 takes_set s _ n o t takes = absurd t
 
-pub operations_stay_in_their_set : OperationsStayInTheirSetLaw
-operations_stay_in_their_set settings rack earlier entries before begun_state s t kind n label run takes at begins more within goes =
+-- an operation that has begun, with its set
+pub record HasBegun (before : Core) (kind : OpKind) (takes : TakesSet kind) (n : Node) (s : State) : Type 0 where
+  pub set : List ℕ
+  pub is_set : (j : ℕ) → (has set j ≡ true) ↔ IsInSet before n j
+  pub stays : Stays before kind takes n set is_set s
+
+pub has_begun : (settings : Settings) (rack : List Driver) (earlier : List Entry) (before : State) (kind : OpKind) (takes : TakesSet kind) (n : Node) (begun_state : State) → Reaches settings rack earlier before
+    → node_at n.serial before.core.nodes ≡ Some n → Goes settings before (Did (Label.Begin kind n.path)) begun_state → HasBegun before.core kind takes n begun_state
+has_begun settings rack earlier before kind takes n begun_state run at begins =
     let kept = reaches_kept settings rack earlier before run in
     let (own, there, named, b) = lines_mean_what_they_say settings rack earlier before (Label.Begin kind n.path) begun_state run begins in
     let own_is : own ≡ n = some_same (node_at n.serial before.core.nodes) own n (subst (λ (k : ℕ). node_at k before.core.nodes ≡ Some own) (kept.stands.tree.paths own.serial n.serial own n there at named) there) at in
     let is_set = subst (λ (x : Node). (j : ℕ) → (has b.operation.set j ≡ true) ↔ IsInSet before.core x j) own_is (takes_set before kind own b.operation takes b.takes) in
     let (o, runs, path) = begun_path before kind n.path begun_state (effect_goes settings before (Did (Label.Begin kind n.path)) begun_state begins).operation in
     let same : o ≡ b.operation = some_same begun_state.operation o b.operation runs b.runs in
-    let first : Stays before.core kind takes n b.operation.set is_set begun_state =
     record {
-      operation = b.operation;
-      runs = b.runs;
-      own_kind = b.own_kind;
-      own_path = ap (λ (x : Job). x.path) (sym same) ∙ path;
-      own_set = refl;
-      others = λ j out. ap (λ (x : State). node_at j x.core.nodes) b.rest;
-    } in
-    let (kept_now, stays) = stays_run before.core kind takes n b.operation.set is_set settings begun_state entries s (kept_goes settings before (Did (Label.Begin kind n.path)) begun_state kept begins) first within more in
-    let step = stepped before.core kind takes n b.operation.set is_set settings s (record { label = label; state = t }) kept_now stays goes in
-    (step.names, λ j out. step.others j (outsider b.operation.set j (λ h. out ((is_set j).0 h))))
+      set = b.operation.set;
+      is_set = is_set;
+      stays =
+          record {
+            operation = b.operation;
+            runs = b.runs;
+            own_kind = b.own_kind;
+            own_path = ap (λ (x : Job). x.path) (sym same) ∙ path;
+            own_set = refl;
+            others = λ j out. ap (λ (x : State). node_at j x.core.nodes) b.rest;
+          };
+    }
+
+pub operations_stay_in_their_set : OperationsStayInTheirSetLaw
+operations_stay_in_their_set settings rack earlier entries before begun_state s t kind n label run takes at begins more within goes =
+    let kept = reaches_kept settings rack earlier before run in
+    let h = has_begun settings rack earlier before kind takes n begun_state run at begins in
+    let (kept_now, stays) = stays_run before.core kind takes n h.set h.is_set settings begun_state entries s (kept_goes settings before (Did (Label.Begin kind n.path)) begun_state kept begins) h.stays within more in
+    let step = stepped before.core kind takes n h.set h.is_set settings s (record { label = label; state = t }) kept_now stays goes in
+    (step.names, λ j out. step.others j (outsider h.set j (λ q. out ((h.is_set j).0 q))))
   where
     outsider : (set : List ℕ) (j : ℕ) → (has set j ≡ true → ⊥) → has set j ≡ false
     outsider set j out = elim (member set j) [ inl h ↦ absurd (out h) | inr h ↦ h ]

@@ -143,7 +143,7 @@ found_goes settings s entry t goes (DriverEffect.named kind name label is unaske
 found_goes settings s entry t goes (DriverEffect.taught name rule unasked rack) =
     same_found s.core.rack _ t.core.rack rack (λ service. same_position (is_named service) s.core.rack _ (place_changed (is_named service) (is_named name) (with_rule rule) (λ x e. refl) s.core.rack))
 
-finds_goes : (settings : Settings) (s : State) (entry : Entry) (t : State) → Goes settings s entry t → Finds s.core.rack t.core.rack
+pub finds_goes : (settings : Settings) (s : State) (entry : Entry) (t : State) → Goes settings s entry t → Finds s.core.rack t.core.rack
 finds_goes settings s entry t goes =
     let drivers = (effect_goes settings s entry t goes).drivers in
     record { found = found_goes settings s entry t goes drivers; names = more_names s entry t drivers }

@@ -10,7 +10,8 @@ use Rattle.pnp_model.specs.Runs.{Entry, Goes, Run, opening, root_path}
 use Rattle.pnp_model.specs.Runs.Entry.{Happens, Did, Declines}
 use Rattle.pnp_pairs.specs.Renamed as renamed
 use Rattle.pnp_pairs.specs.Renamed.{Renaming}
-use Rattle.pnp_pairs.specs.Renaming.{ChooseAlike, NoneDeclined, RenamingOnlyRenamesLaw, RenamingRenamesLaw, happened}
+use Rattle.pnp_promises.specs.Later.{NoneDeclined, happened}
+use Rattle.pnp_pairs.specs.Renaming.{ChooseAlike, RenamingOnlyRenamesLaw, RenamingRenamesLaw}
 use Rattle.pnp_pairs.proofs.Events.{happens_same}
 use Rattle.pnp_pairs.proofs.Jobs.{path_same}
 use Rattle.pnp_pairs.proofs.Machine.{due_same, quiet_same, steps_same}

@@ -25,7 +25,7 @@ use Rattle.pnp_model.specs.Tests.{has, has_same, is_scripted, is_started}
 use Rattle.pnp_model.specs.Trees.{dependents}
 use Rattle.pnp_model.specs.Windows.{is_window_on}
 use Rattle.pnp_model.proofs.Guards.{by_found, by_test}
-use Rattle.pnp_pairs.specs.Renaming.{NoneDeclined}
+use Rattle.pnp_promises.specs.Later.{NoneDeclined}
 use Rattle.pnp_pairs.specs.Struck.{StruckRunsDoTheRestLaw, RefusedLeavesNoTraceLaw, is_refused, struck}
 use Rattle.pnp_pairs.proofs.OneRun.{one_run}
 

@@ -1,4 +1,6 @@
+pub mod DisabledAndEnabled
 pub mod OwnSets
+pub mod Parts
 pub mod Renamed
 pub mod Renaming
 pub mod SameDrivers

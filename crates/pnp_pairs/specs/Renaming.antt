@@ -1,13 +1,12 @@
 -- Renaming: other paths, identifiers and names of drivers, one to one, and the output has them in their places; nothing else changes.
-use Rattle.std.specs.Prelude.{◌≡◌, List, [], ◌∷◌, map, option_map}
+use Rattle.std.specs.Prelude.{◌≡◌, List, [], map, option_map}
 use Rattle.pnp_labels.specs.Texts.{Text}
-use Rattle.pnp_labels.specs.declared.event.Event.{Event}
 use Rattle.pnp_model.specs.Endings.{Held, Placed, map_rows, outstanding, print_order}
 use Rattle.pnp_model.specs.Laws.{Reaches}
 use Rattle.pnp_model.specs.Machine.{IsQuiet}
 use Rattle.pnp_model.specs.Records.{Driver, Settings, State}
 use Rattle.pnp_model.specs.Runs.{Entry}
-use Rattle.pnp_model.specs.Runs.Entry.{Happens, Did, Declines}
+use Rattle.pnp_promises.specs.Later.{NoneDeclined, happened}
 use Rattle.pnp_pairs.specs.Renamed as renamed
 use Rattle.pnp_pairs.specs.Renamed.{Renaming}
 
@@ -23,19 +22,6 @@ RenamingRenamesLaw =
     (r : Renaming) (settings other : Settings) (rack : List Driver) (entries : List Entry) (s : State) → ChooseAlike r settings other
     → Reaches settings rack entries s
     → Reaches other (renamed.rack r rack) (map (renamed.entry r) entries) (renamed.state r s) × (IsQuiet settings s → IsQuiet other (renamed.state r s))
-
--- what happened, in order
-abbrev pub happened : List Entry → List Event
-happened [] = []
-happened (Happens event label ∷ rest) = event ∷ happened rest
-happened (Did label ∷ rest) = happened rest
-happened (Declines label ∷ rest) = happened rest
-
--- no client declines anything
-abbrev pub NoneDeclined : List Entry → Type 0
-NoneDeclined [] = Unit {0}
-NoneDeclined (Declines label ∷ rest) = ⊥
-NoneDeclined (entry ∷ rest) = NoneDeclined rest
 
 -- And it does nothing else: where what happened is what happened in another run, renamed, and both have come to rest, all that was done
 -- and printed is what was done and printed there, renamed.

@@ -6,7 +6,7 @@ use Rattle.pnp_model.specs.Machine.{IsQuiet}
 use Rattle.pnp_model.specs.Records.{Driver, Settings, State}
 use Rattle.pnp_model.specs.Runs.{Entry}
 use Rattle.pnp_model.specs.Runs.Entry.{Happens, Did, Declines}
-use Rattle.pnp_pairs.specs.Renaming.{NoneDeclined, happened}
+use Rattle.pnp_promises.specs.Later.{NoneDeclined, happened}
 
 abbrev pub is_refused : Label → Bool
 is_refused (Label.Refused word reason) = true

@@ -1,6 +1,8 @@
 //! What holds of two runs of the device machine.
 
+ghost use Rattle.pnp_pairs.specs.DisabledAndEnabled.{DisabledAndEnabledLaw, TwiceIsAsOnceLaw};
 ghost use Rattle.pnp_pairs.specs.OwnSets.{OperationsStayInTheirSetLaw};
+ghost use Rattle.pnp_pairs.specs.Parts.{PartsStayApartLaw};
 ghost use Rattle.pnp_pairs.specs.Renaming.{RenamingOnlyRenamesLaw, RenamedEndsAlikeLaw, RenamingRenamesLaw};
 ghost use Rattle.pnp_pairs.specs.SameDrivers.{ChoiceHangsOnIdsLaw, IdsStayLaw, SameDeviceSameDriversLaw, SameIdsSameDriversLaw};
 ghost use Rattle.pnp_pairs.specs.Struck.{StruckRunsDoTheRestLaw, RefusedLeavesNoTraceLaw};
@@ -59,4 +61,22 @@ pub fn same_device_same_drivers()
 /// that depended on that, and nobody else changes, whatever happens in between.
 pub fn operations_stay_in_their_set()
     ensures { OperationsStayInTheirSetLaw }
+{}
+
+/// Where nothing is under way, a device on which nothing depends, and whose drivers agree to all, is disabled and enabled: the machine comes
+/// to rest as it was, and the device is Started with the same drivers; but it holds what a search finds first, and its relations are gone.
+pub fn disabled_and_enabled_is_as_before()
+    ensures { DisabledAndEnabledLaw }
+{}
+
+/// So doing it twice is as doing it once.
+pub fn twice_is_as_once()
+    ensures { TwiceIsAsOnceLaw }
+{}
+
+/// A part of the tree stays by itself: where all that is under way is of some devices, on which nobody else hangs, and while what happens is
+/// of them, each line names one of them, nobody else changes, and what is under way then is of them again; but where an operation begins that
+/// looks at all devices.
+pub fn parts_stay_apart()
+    ensures { PartsStayApartLaw }
 {}
