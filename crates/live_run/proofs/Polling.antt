@@ -1,6 +1,6 @@
 -- What the answers to a poll and to a probe come to.
 use Rattle.std.proofs.Common.{arith, ℕ, ◌≡◌, ◌<◌, ◌≤◌, ◌++◌, Bool, true, false, List, [], ◌∷◌, Option, Some, None, length, map, refl, sym, ap, ◌∙◌, subst, inr}
-use Rattle.std.specs.Prelude.{◌&&◌, IfOk, IsErr, IsErrAnd, Result, Ok, Err, codes, if◌then◌else◌, is_some}
+use Rattle.std.specs.Prelude.{◌&&◌, IsErr, IsErrAnd, Result, Ok, Err, codes, if◌then◌else◌, is_some}
 use Rattle.std.specs.Str.{bytes_eq}
 use Rattle.device_ids.specs.Ids.{is_path}
 use Rattle.live_io.specs.Turns.{Past}
@@ -14,8 +14,8 @@ use Rattle.live_model.specs.Answers.{Completion, Reply, are_tags, completes, com
 use Rattle.live_model.specs.Fronts.{IsFront}
 use Rattle.live_model.specs.Notes.{broke_lines, done_line, probe_lines}
 use Rattle.live_model.specs.Outputs.{Told, is_polled}
-use Rattle.live_model.specs.Trails.{Trail, request_at}
-use Rattle.live_run.specs.Polls.{HasCompleted, HasPolled, TakesPolled}
+use Rattle.live_model.specs.Trails.{Trail}
+use Rattle.live_run.specs.Polls.{HasPolled, TakesPolled}
 use Rattle.live_run.specs.Probes.{HasProbed, TakesProbed}
 use Rattle.live_run.specs.Talks.{HearsLine, told_by}
 use Rattle.live_run.specs.declared.poll.Polled.{Polled}

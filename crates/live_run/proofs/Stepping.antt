@@ -1,5 +1,5 @@
 -- How a step of a live run goes, from its ask on.
-use Rattle.std.proofs.Common.{◌≡◌, ◌+◌, Bool, true, false, List, [], ◌∷◌, ◌++◌, Option, Some, None, refl, sym, ap, ◌∙◌, subst}
+use Rattle.std.proofs.Common.{◌≡◌, ◌+◌, Bool, true, List, [], ◌∷◌, ◌++◌, Option, Some, None, refl, sym, ap, subst}
 use Rattle.std.specs.Prelude.{Ok, Err, is_some}
 use Rattle.live_io.specs.Turns.{Past}
 use Rattle.pnp_labels.specs.Texts.{Text, label_line}

@@ -5,14 +5,14 @@ use Rattle.std.proofs.lemmas.List.{append-nil, take-append-drop}
 use Rattle.pnp_io.specs.Outside.{Appends, AppendsFront}
 use Rattle.live_io.specs.Turns.{Hears, HasSaid, HasSaidFront, HasTurned, Past, with_said, with_turn}
 use Rattle.live_io.specs.declared.peer.Heard.{Heard}
-use Rattle.live_io.specs.declared.peer.Heard.TheVariants.{Line, LongLine, Over}
+use Rattle.live_io.specs.declared.peer.Heard.TheVariants.{Line}
 use Rattle.pnp_labels.specs.Texts.{Text}
 use Rattle.pnp_labels.specs.declared.words.Answer.{Answer}
 use Rattle.live_model.specs.Answers.{Reply, reply_in}
 use Rattle.live_model.specs.Fronts.{IsFront}
 use Rattle.live_model.specs.Notes.{ask_line, broke_lines}
 use Rattle.live_model.specs.Outputs.{Told, asked, hears, says, turned, with_more}
-use Rattle.live_run.specs.Talks.{HasAnswered, HearsLine, HearsNone, IsSaid, IsTurn, TakesReply, told_by}
+use Rattle.live_run.specs.Talks.{HasAnswered, HearsLine, IsTurn, TakesReply, told_by}
 use Rattle.live_run.specs.declared.stop.DriveError.{DriveError}
 use Rattle.live_run.specs.declared.stop.Stop.{Stop}
 
