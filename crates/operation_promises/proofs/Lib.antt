@@ -1,4 +1,0 @@
-pub mod Movers
-pub mod Removed
-pub mod Below
-pub mod Causes

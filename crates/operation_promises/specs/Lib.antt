@@ -1,3 +1,0 @@
-pub mod Movers
-pub mod Below
-pub mod Causes
