@@ -1,8 +1,7 @@
 -- Drivers that have no rule for what they are asked: they answer ok, and the rack stays.
-use Rattle.std.proofs.Common.{ℕ, zero, suc, ◌+◌, ◌-◌, ◌<◌, ◌≡◌, Bool, true, false, List, [], ◌∷◌, length, get_or, Option, Some, None, refl, sym, ap, ◌∙◌, subst, arith, cond}
+use Rattle.std.proofs.Common.{ℕ, zero, suc, ◌-◌, ◌<◌, ◌≡◌, Bool, true, false, List, [], ◌∷◌, length, Option, Some, None, refl, ap, ◌∙◌, arith, cond}
 use Rattle.std.specs.List.{AllByRecursion, find, slice_get, slice_set}
 use Rattle.std.specs.Prelude.{slice_index}
-use Rattle.std.proofs.lemmas.Bool.Decides.{nat_tests}
 use Rattle.pnp_labels.specs.Texts.{Text}
 use Rattle.pnp_labels.specs.declared.event.Rule.{Rule}
 use Rattle.pnp_labels.specs.declared.label.Label.{Label}
@@ -10,7 +9,7 @@ use Rattle.pnp_labels.specs.declared.label.Shown.{Shown}
 use Rattle.pnp_labels.specs.declared.words.Answer.{Answer}
 use Rattle.pnp_labels.specs.declared.words.AskWhat.{AskWhat}
 use Rattle.pnp_labels.specs.declared.words.Minor.{Minor}
-use Rattle.pnp_model.specs.Books.{answer_in, book_of, fits, later, name_of, rack_after, rack_reply, used, with_later}
+use Rattle.pnp_model.specs.Books.{answer_in, book_of, fits, name_of, rack_after, rack_reply, used, with_later}
 use Rattle.pnp_model.specs.Frames.{Ask, ask_driver, asked, core_after, next_driver}
 use Rattle.pnp_model.specs.Keyed.{changed_first}
 use Rattle.pnp_model.specs.Records.{Core, Driver, Node, Walk}

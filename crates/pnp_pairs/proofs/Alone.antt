@@ -1,5 +1,5 @@
 -- A device on which nothing depends: it leaves alone, and nothing stands below it.
-use Rattle.std.proofs.Common.{ℕ, ◌≡◌, ◌≢◌, ◌==◌, ◌&&◌, ◌⊎◌, inl, inr, Bool, true, false, not, List, [], ◌∷◌, length, Option, Some, None, refl, sym, ap, ◌∙◌, subst, arith, cond}
+use Rattle.std.proofs.Common.{ℕ, ◌≡◌, ◌≢◌, ◌==◌, ◌&&◌, inl, inr, Bool, true, false, not, List, [], ◌∷◌, length, Some, refl, sym, ap, subst, arith, cond}
 use Rattle.std.specs.List.{list_any}
 use Rattle.std.proofs.lemmas.Bool.Decides.{nat_tests}
 use Rattle.pnp_model.specs.Cores.{node_at, serials_of}
@@ -8,7 +8,7 @@ use Rattle.pnp_model.specs.Records.{Core, Node}
 use Rattle.pnp_model.specs.Tests.{has}
 use Rattle.pnp_model.specs.Trees.{children, dependents, direct, hangs_on, is_child, leaving, set_of}
 use Rattle.pnp_laws.specs.Kept.{Ascending, IsLast}
-use Rattle.pnp_laws.proofs.Closures.{closed_distinct, closed_keeps, set_within}
+use Rattle.pnp_laws.proofs.Closures.{closed_keeps, set_within}
 use Rattle.pnp_laws.proofs.Lists.{has_cases, those_found}
 use Rattle.pnp_laws.proofs.Orders.{Ranked, RootFree, leaving_fits, order_all, order_has}
 use Rattle.pnp_laws.proofs.Truths.{and_both, both_true, or_left}

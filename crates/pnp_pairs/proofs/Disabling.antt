@@ -1,34 +1,30 @@
 -- A device on which nothing depends, and whose drivers agree, is disabled: step by step.
-use Rattle.std.proofs.Common.{ℕ, zero, suc, ◌+◌, ◌≤◌, ◌≡◌, ◌≢◌, ◌==◌, Bool, true, false, not, List, [], ◌∷◌, ◌++◌, length, Option, Some, None, refl, sym, ap, ◌∙◌, subst, arith, cond, if◌then◌else◌}
-use Rattle.std.specs.List.{AllByRecursion, find, list_any}
+use Rattle.std.proofs.Common.{ℕ, suc, ◌+◌, ◌≤◌, ◌≡◌, ◌≢◌, ◌==◌, Bool, true, false, List, [], ◌∷◌, ◌++◌, length, Option, Some, None, refl, sym, ap, ◌∙◌, subst, arith, cond, if◌then◌else◌}
+use Rattle.std.specs.List.{AllByRecursion}
 use Rattle.std.specs.Option.{option_map}
-use Rattle.std.specs.Prelude.{◌||◌, map}
+use Rattle.std.specs.Prelude.{map}
 use Rattle.std.proofs.lemmas.Bool.Decides.{nat_tests}
-use Rattle.device_ids.specs.Folding.{same}
-use Rattle.pnp_labels.specs.Texts.{Text}
 use Rattle.pnp_labels.specs.declared.label.OpKind.{OpKind}
-use Rattle.pnp_labels.specs.declared.states.DevState.{DevState}
 use Rattle.pnp_labels.specs.declared.states.DevState.TheVariants.{RemovePending, Started}
 use Rattle.pnp_labels.specs.declared.states.Problem.{Problem}
 use Rattle.pnp_labels.specs.declared.words.Minor.{Minor}
-use Rattle.pnp_model.specs.Cores.{bare, is_node, forget, node_at, set_problem, set_state, stack_of, strip, with_problem, with_state}
+use Rattle.pnp_model.specs.Cores.{bare, forget, node_at, set_problem, set_state, stack_of, strip, with_problem, with_state}
 use Rattle.pnp_model.specs.Frames.{Ask, asked, first_node}
 use Rattle.pnp_model.specs.Handles.{is_open}
 use Rattle.pnp_model.specs.Jobs as jobs
 use Rattle.pnp_model.specs.Machine as ma
-use Rattle.pnp_model.specs.Records.{Core, Course, Doing, Duty, Job, Node, Relation, Settings, Stage, State, Step, Task, course_of, doing_map}
+use Rattle.pnp_model.specs.Records.{Core, Doing, Duty, Job, Node, Relation, Settings, Stage, State, doing_map}
 use Rattle.pnp_model.specs.Records.Doing.{Does}
 use Rattle.pnp_model.specs.Removals as rm
 use Rattle.pnp_model.specs.Tasks as tk
-use Rattle.pnp_model.specs.Tests.{has, has_same, is_started, is_surprise_removed}
+use Rattle.pnp_model.specs.Tests.{has, has_same, is_surprise_removed}
 use Rattle.pnp_model.specs.Trees.{leaving}
-use Rattle.pnp_model.specs.Walks.{walk_of}
 use Rattle.pnp_laws.proofs.Truths.{neither}
 use Rattle.pnp_pairs.specs.DisabledAndEnabled.{HasNoRule}
 use Rattle.pnp_pairs.proofs.Agreeing.{agreed, asked_agrees, next_agrees}
 use Rattle.pnp_pairs.proofs.Leading.{Leads, leads_on, stays, steps_on}
 use Rattle.pnp_pairs.proofs.Placing.{at_put, put, put_changed, put_self}
-use Rattle.pnp_pairs.proofs.Walking.{asking, asks_all, ends_well, goes_on, walk_at}
+use Rattle.pnp_pairs.proofs.Walking.{asks_all, ends_well, goes_on, walk_at}
 
 -- the state with nothing under way
 abbrev pub rests : State → State

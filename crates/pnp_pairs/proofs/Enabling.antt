@@ -1,6 +1,6 @@
 -- A device that was disabled is started again, where its drivers agree and the search finds something: step by step.
-use Rattle.std.proofs.Common.{ℕ, zero, suc, ◌+◌, ◌≤◌, ◌≡◌, ◌≢◌, ◌==◌, Bool, true, false, not, List, [], ◌∷◌, ◌++◌, length, nat_le, Option, Some, None, refl, sym, ap, ap₂, ◌∙◌, subst, arith, cond}
-use Rattle.std.specs.List.{AllByRecursion, find, list_any}
+use Rattle.std.proofs.Common.{ℕ, ◌+◌, ◌≡◌, ◌≢◌, ◌==◌, Bool, true, false, not, List, [], ◌∷◌, ◌++◌, length, nat_le, Option, Some, None, refl, sym, ap, ap₂, ◌∙◌, subst, arith, cond}
+use Rattle.std.specs.List.{AllByRecursion, find}
 use Rattle.std.specs.Prelude.{◌&&◌}
 use Rattle.std.proofs.lemmas.Bool.Decides.{nat_tests}
 use Rattle.device_ids.specs.Folding.{same}
@@ -15,24 +15,23 @@ use Rattle.pnp_labels.specs.declared.words.Answer.{Answer}
 use Rattle.pnp_labels.specs.declared.words.AskWhat.{AskWhat}
 use Rattle.pnp_labels.specs.declared.words.Minor.{Minor}
 use Rattle.pnp_model.specs.Books.{driver_named, name_of, rack_reply}
-use Rattle.pnp_model.specs.Cores.{is_node, node_at, set_holds, set_problem, set_stack, set_state, stacked, with_holds, with_problem, with_stack, with_state}
-use Rattle.pnp_model.specs.Frames.{core_after, fixed_beside, held_by, is_beside}
-use Rattle.pnp_model.specs.Keyed.{changed_first, those}
+use Rattle.pnp_model.specs.Cores.{node_at, set_problem, set_state, stacked, with_holds, with_problem, with_stack, with_state}
+use Rattle.pnp_model.specs.Frames.{held_by, is_beside}
+use Rattle.pnp_model.specs.Keyed.{those}
 use Rattle.pnp_model.specs.Machine as ma
-use Rattle.pnp_model.specs.Records.{Activity, Choice, Core, Device, Doing, Driver, Duty, Found, Node, Phase, Relation, Settings, State, Step, Walk, doing_map}
-use Rattle.pnp_model.specs.Records.Doing.{Does, Searches}
+use Rattle.pnp_model.specs.Records.{Choice, Core, Device, Driver, Duty, Found, Node, Phase, Relation, Settings, State, Step}
+use Rattle.pnp_model.specs.Records.Doing.{Does}
 use Rattle.pnp_model.specs.Starts as st
 use Rattle.pnp_model.specs.Starts.{adding, own_part, own_problem}
 use Rattle.pnp_model.specs.Tasks as tk
-use Rattle.pnp_model.specs.Tests.{has, has_same}
+use Rattle.pnp_model.specs.Tests.{has_same}
 use Rattle.pnp_model.specs.Trees.{children, is_child}
-use Rattle.pnp_model.specs.Walks.{has_ended, is_bad}
 use Rattle.pnp_pairs.specs.DisabledAndEnabled.{HasNoRule}
 use Rattle.pnp_pairs.proofs.Agreeing.{core_stays, says_ok}
 use Rattle.pnp_pairs.proofs.Disabling.{disabled, owes, stood}
 use Rattle.pnp_pairs.proofs.Leading.{Leads, leads_on, searches_on, stays, steps_on}
 use Rattle.pnp_pairs.proofs.Placing.{any_put, at_put, put, put_changed, those_put}
-use Rattle.pnp_pairs.proofs.Walking.{acts_next, in_phase, is_good, is_over, moves_on, starting, starts_all, walk_at}
+use Rattle.pnp_pairs.proofs.Walking.{acts_next, in_phase, is_over, moves_on, starts_all, walk_at}
 
 -- these drivers of the rack are those that the INFs name for the device: lower filters, its own, upper filters
 pub record IsChosen (settings : Settings) (rack : List Driver) (n : Node) (drivers : List ℕ) : Type 0 where

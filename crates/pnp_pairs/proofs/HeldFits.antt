@@ -1,9 +1,9 @@
 -- What a device holds is an assignment for it alone, beside all that others hold: so a search that stays within the budget finds one.
-use Rattle.std.proofs.Common.{ℕ, suc, ◌≡◌, ◌≢◌, ◌==◌, inl, inr, Bool, true, false, not, List, [], ◌∷◌, ◌++◌, Some, None, Contains, refl, sym, ap, ◌∙◌, subst, arith, cond}
+use Rattle.std.proofs.Common.{ℕ, suc, ◌≡◌, ◌≢◌, inl, inr, Bool, true, false, List, [], ◌∷◌, ◌++◌, Some, Contains, refl, sym, subst, arith, cond}
 use Rattle.std.specs.List.{AllByRecursion}
 use Rattle.std.proofs.lemmas.Bool.Decides.{nat_tests}
 use Rattle.std.proofs.lemmas.List.Elements.{Contains-append_cases}
-use Rattle.resource_reqs.specs.Resources.{Clash, Free, IsAssignment, NoClash, Reqs, Res, Whole}
+use Rattle.resource_reqs.specs.Resources.{Free, IsAssignment, NoClash, Res, Whole}
 use Rattle.resource_reqs.specs.Spelling.{Answer, IsAnswer, assignment, no_fit, spent}
 use Rattle.resource_reqs.proofs.Answering.{no_fit_means}
 use Rattle.pnp_model.specs.Cores.{node_at}

@@ -1,5 +1,5 @@
 -- What happens to devices of a part leaves it apart, and puts nobody else to work.
-use Rattle.std.proofs.Common.{ℕ, ◌+◌, ◌≤◌, ◌≡◌, ◌≢◌, ◌⊎◌, ◌==◌, ◌&&◌, ◌||◌, inl, inr, Bool, true, false, not, List, [], ◌∷◌, ◌++◌, length, nat_le, Option, Some, None, is_some, Contains, refl, sym, ap, ◌∙◌, subst, arith, cond, if◌then◌else◌}
+use Rattle.std.proofs.Common.{ℕ, ◌≤◌, ◌≡◌, ◌≢◌, ◌⊎◌, ◌==◌, ◌&&◌, ◌||◌, inl, inr, Bool, true, false, not, List, [], ◌∷◌, ◌++◌, length, nat_le, Option, Some, None, is_some, Contains, refl, sym, ap, ◌∙◌, subst, arith, cond, if◌then◌else◌}
 use Rattle.std.specs.Prelude.{find, is_none, nat_lt}
 use Rattle.std.specs.List.{list_any}
 use Rattle.std.proofs.lemmas.Bool.Decides.{nat_tests}
@@ -22,7 +22,7 @@ use Rattle.pnp_model.specs.Frames.{held_by}
 use Rattle.pnp_model.specs.Handles.{is_handle_of}
 use Rattle.pnp_model.specs.Keyed.{changed_first}
 use Rattle.pnp_model.specs.Machine.{phase_walk}
-use Rattle.pnp_model.specs.Records.{Activity, Device, Duty, Node, Phase, Relation, State, Step, Task}
+use Rattle.pnp_model.specs.Records.{Activity, Device, Duty, Node, Relation, State, Step, Task}
 use Rattle.pnp_model.specs.States.{activity_at, device_of, has_below, is_activity, is_in_world, list_node, node_born, node_of, requires, unplug, with_phase}
 use Rattle.pnp_model.specs.Tests.{has, has_same, is_scripted, is_started, is_surprise_removed}
 use Rattle.pnp_model.specs.Trees.{dependents}
@@ -31,7 +31,7 @@ use Rattle.pnp_model.proofs.Guards.{by_found, by_test}
 use Rattle.pnp_laws.specs.Kept.{Ascending}
 use Rattle.pnp_laws.proofs.Decides.{contains_here, contains_later}
 use Rattle.pnp_laws.proofs.Lookups.{find_passes, node_found}
-use Rattle.pnp_promises.proofs.LinesIdle.{found_in, none_passes}
+use Rattle.pnp_promises.proofs.LinesIdle.{none_passes}
 use Rattle.pnp_pairs.specs.Parts.{IsApart, IsOfPart}
 use Rattle.pnp_pairs.proofs.PartOperations.{in_world_still}
 use Rattle.pnp_pairs.proofs.PartSteps.{in_changed, in_more}

@@ -1,5 +1,5 @@
 -- What a removal leaves under way: its set, and maybe the listing of a device below which the world has another device of the path of one that left.
-use Rattle.std.proofs.Common.{ℕ, ◌≡◌, ◌≢◌, ◌⊎◌, ◌==◌, ◌||◌, inl, inr, Bool, true, false, List, [], ◌∷◌, ◌++◌, Option, Some, None, Contains, refl, sym, ap, ◌∙◌, subst, arith, cond, if◌then◌else◌}
+use Rattle.std.proofs.Common.{ℕ, ◌≡◌, ◌≢◌, ◌⊎◌, ◌==◌, ◌||◌, inl, inr, Bool, true, false, List, [], ◌∷◌, ◌++◌, Option, Some, None, Contains, refl, sym, ap, ◌∙◌, subst, arith, cond}
 use Rattle.std.specs.List.{find}
 use Rattle.std.proofs.lemmas.Bool.Decides.{nat_tests}
 use Rattle.device_ids.specs.Folding.{same}
@@ -11,9 +11,7 @@ use Rattle.pnp_model.specs.Jobs.{Beside, JobMove}
 use Rattle.pnp_model.specs.Keyed.{without_first}
 use Rattle.pnp_model.specs.Machine as ma
 use Rattle.pnp_model.specs.Records.{Course, Device, Duty, Job, Node, Stage, State, Step, Task, course_of}
-use Rattle.pnp_model.specs.Removals as rm
 use Rattle.pnp_model.specs.States.{device_of, node_born, relist, relist_device, relist_other, list_node, set_operation, unplug, with_core, without_those}
-use Rattle.pnp_model.specs.Surprises as su
 use Rattle.pnp_model.specs.Tests.{has}
 use Rattle.pnp_laws.specs.Kept.{Ascending}
 use Rattle.pnp_laws.proofs.Decides.{contains_here, contains_later}

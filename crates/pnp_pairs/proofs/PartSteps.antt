@@ -1,14 +1,11 @@
 -- Where no operation runs and all that is under way is of some devices, a step is of one of them.
-use Rattle.std.proofs.Common.{ℕ, suc, ◌+◌, ◌≤◌, ◌≡◌, ◌≢◌, ◌⊎◌, ◌==◌, inl, inr, Bool, true, false, not, List, [], ◌∷◌, ◌++◌, length, nat_le, drop, Option, Some, None, Contains, refl, sym, ap, ◌∙◌, subst, arith, cond}
+use Rattle.std.proofs.Common.{ℕ, ◌+◌, ◌≡◌, ◌≢◌, ◌⊎◌, ◌==◌, inl, inr, Bool, true, false, not, List, [], ◌∷◌, ◌++◌, length, nat_le, drop, Option, Some, None, Contains, refl, sym, ap, ◌∙◌, subst, arith, cond}
 use Rattle.std.specs.List.{find, slice_get}
 use Rattle.std.proofs.lemmas.Bool.Decides.{nat_tests}
 use Rattle.std.proofs.lemmas.List.Elements.{Contains-append_cases}
-use Rattle.resource_reqs.specs.Resources.{Res}
-use Rattle.resource_reqs.specs.Spelling.{IsAnswer}
 use Rattle.resource_reqs.specs.Spelling.Answer.{assignment, no_fit, spent}
 use Rattle.resource_reqs.proofs.Counts.{contains_cons, contains_nil}
 use Rattle.pnp_labels.specs.Texts.{Text}
-use Rattle.pnp_labels.specs.declared.label.Label.{Label}
 use Rattle.pnp_labels.specs.declared.label.OpKind.{OpKind}
 use Rattle.pnp_labels.specs.declared.states.DevState.{DevState}
 use Rattle.pnp_labels.specs.declared.states.DevState.TheVariants.{NoStack, NotStarted, Started, SurpriseRemoved}
@@ -27,15 +24,12 @@ use Rattle.pnp_model.specs.Starts as st
 use Rattle.pnp_model.specs.States.{activity_at, device_born, is_above, is_activity, new_child, with_phase}
 use Rattle.pnp_model.specs.Tasks as tk
 use Rattle.pnp_model.specs.Tests.{has_same}
-use Rattle.pnp_model.specs.Trees.{children, is_child}
 use Rattle.pnp_model.specs.Walks.{has_ended, is_bad}
 use Rattle.pnp_model.specs.Handles.{is_ready_device}
-use Rattle.pnp_model.specs.Rebalances.{begun_change}
-use Rattle.pnp_laws.specs.Effects.{begun, required}
 use Rattle.pnp_laws.specs.Kept.{Ascending}
 use Rattle.pnp_laws.proofs.Decides.{contains_here, contains_later}
 use Rattle.pnp_laws.proofs.IdleSteps.{gone_is}
-use Rattle.pnp_laws.proofs.Lookups.{find_passes, first_is, found_self, joined_from, joined_keeps, node_changed_other, own_serial}
+use Rattle.pnp_laws.proofs.Lookups.{first_is, found_self, joined_from, joined_keeps, node_changed_other, own_serial}
 use Rattle.pnp_laws.proofs.Passing.{AllBy, AllNext, all_step}
 use Rattle.pnp_laws.proofs.Truths.{and_both}
 use Rattle.pnp_promises.proofs.LinesIdle.{found_in}

@@ -1,5 +1,5 @@
 -- A part of the tree stays by itself.
-use Rattle.std.proofs.Common.{ℕ, ◌+◌, ◌≤◌, ◌≡◌, ◌≢◌, ◌⊎◌, ◌==◌, ◌&&◌, ◌↔◌, inl, inr, Bool, true, false, List, [], ◌∷◌, ◌++◌, Option, Some, None, Contains, length, refl, sym, ap, ◌∙◌, subst, arith, cond}
+use Rattle.std.proofs.Common.{ℕ, ◌≡◌, ◌≢◌, ◌⊎◌, ◌==◌, ◌&&◌, ◌↔◌, inl, inr, Bool, true, false, List, [], ◌∷◌, Option, Some, None, Contains, length, refl, sym, ap, ◌∙◌, subst, arith, cond}
 use Rattle.std.specs.List.{list_any}
 use Rattle.std.proofs.lemmas.Bool.Decides.{nat_tests}
 use Rattle.device_ids.specs.Folding.{same}
@@ -9,21 +9,20 @@ use Rattle.pnp_labels.specs.declared.event.Event.{Event}
 use Rattle.pnp_labels.specs.declared.label.Label.{Label}
 use Rattle.pnp_labels.specs.declared.label.OpKind.{OpKind}
 use Rattle.pnp_labels.specs.declared.label.OpEnd.{OpEnd}
-use Rattle.pnp_model.specs.Cores.{forget, node_at}
+use Rattle.pnp_model.specs.Cores.{node_at}
 use Rattle.pnp_model.specs.Events.{happens}
 use Rattle.pnp_model.specs.Keyed.{those}
 use Rattle.pnp_model.specs.Laws.{IsWithin}
 use Rattle.pnp_model.specs.Machine as ma
-use Rattle.pnp_model.specs.Records.{Activity, Core, Device, Driver, Duty, Job, Node, Relation, Settings, State, Step, Task, Walk}
+use Rattle.pnp_model.specs.Records.{Activity, Core, Device, Driver, Duty, Job, Node, Relation, Settings, State, Step, Task}
 use Rattle.pnp_model.specs.Runs.{Entry, Goes}
 use Rattle.pnp_model.specs.Runs.Entry.{Happens, Did, Declines}
-use Rattle.pnp_model.specs.Tasks.{begin, joins}
+use Rattle.pnp_model.specs.Tasks.{joins}
 use Rattle.pnp_model.specs.Tests.{has}
-use Rattle.pnp_model.specs.Trees.{closed_in, dependents, direct, grown, hangs_on}
-use Rattle.pnp_laws.specs.Effects.{OpEffect, WorldEffect, begun}
+use Rattle.pnp_model.specs.Trees.{direct, grown, hangs_on}
+use Rattle.pnp_laws.specs.Effects.{OpEffect, WorldEffect}
 use Rattle.pnp_laws.specs.Kept.{Ascending}
 use Rattle.pnp_laws.specs.Reached.{IsReached}
-use Rattle.pnp_laws.specs.Words.{joined}
 use Rattle.pnp_laws.proofs.Closures.{closed_in_all, grown_from, hangs_some}
 use Rattle.pnp_laws.proofs.Decides.{contains_here, contains_later}
 use Rattle.pnp_laws.proofs.EventChanges.{happens_outside}
@@ -38,7 +37,7 @@ use Rattle.pnp_laws.proofs.Truths.{and_both, or_cases}
 use Rattle.pnp_promises.proofs.LinesIdle.{found_in}
 use Rattle.pnp_promises.proofs.Relations.{relations_go_with_drivers}
 use Rattle.pnp_pairs.specs.OwnSets.{IsInSet, IsOneOf, NamesOneOf, TakesSet}
-use Rattle.pnp_pairs.specs.Parts.{AreAtWork, IsApart, IsLocal, IsOfPart, NamesMine, PartsStayApartLaw, RunOfPart, named}
+use Rattle.pnp_pairs.specs.Parts.{IsApart, IsLocal, IsOfPart, NamesMine, PartsStayApartLaw, RunOfPart, named}
 use Rattle.pnp_pairs.proofs.OwnSets.{Stays, happens_stays, has_begun, stepped, taken}
 use Rattle.pnp_pairs.proofs.PartEvents.{event_mine}
 use Rattle.pnp_pairs.proofs.PartOperations.{in_world_still, op_rest}

@@ -1,6 +1,6 @@
 -- A device that is disabled and enabled once more stands as after the first time.
-use Rattle.std.proofs.Common.{ℕ, zero, suc, ◌≡◌, ◌≢◌, ◌==◌, ◌&&◌, ◌||◌, inl, inr, Bool, true, false, not, List, [], ◌∷◌, ◌++◌, length, Option, Some, None, refl, sym, ap, ap₂, ◌∙◌, subst, arith, cond}
-use Rattle.std.specs.List.{find, list_any}
+use Rattle.std.proofs.Common.{ℕ, ◌≡◌, ◌==◌, ◌&&◌, ◌||◌, inl, inr, Bool, true, false, not, List, [], ◌∷◌, ◌++◌, length, Some, refl, sym, ap, ap₂, ◌∙◌, subst, arith, cond}
+use Rattle.std.specs.List.{list_any}
 use Rattle.std.proofs.lemmas.Bool.Decides.{nat_tests}
 use Rattle.device_ids.specs.Folding.{same}
 use Rattle.resource_reqs.specs.Resources.{Res}
@@ -16,9 +16,9 @@ use Rattle.pnp_model.specs.Laws.{Reaches}
 use Rattle.pnp_model.specs.Records.{Core, Device, Driver, Node, Relation, Settings, State}
 use Rattle.pnp_model.specs.Runs.{Entry, Run, opening}
 use Rattle.pnp_model.specs.Starts.{own_part, own_problem}
-use Rattle.pnp_model.specs.Tasks.{joining, joins}
+use Rattle.pnp_model.specs.Tasks.{joins}
 use Rattle.pnp_model.specs.Tests.{has}
-use Rattle.pnp_model.specs.Trees.{closed, dependents, direct, grown, hangs_on, is_in_or_on}
+use Rattle.pnp_model.specs.Trees.{closed, dependents, grown, hangs_on, is_in_or_on}
 use Rattle.pnp_laws.specs.Kept.{Ascending}
 use Rattle.pnp_laws.proofs.Closures.{closed_in_all, those_serial}
 use Rattle.pnp_laws.proofs.Reaching.{run_on}

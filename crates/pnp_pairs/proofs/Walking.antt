@@ -1,5 +1,5 @@
 -- A request goes through the drivers of a device, all of which agree: of an operation, and of a start.
-use Rattle.std.proofs.Common.{ℕ, zero, suc, ◌+◌, ◌≤◌, ◌==◌, ◌≡◌, Bool, true, false, List, [], ◌∷◌, length, nat_le, Option, Some, None, refl, sym, ap, ◌∙◌, subst, arith, cond, if◌then◌else◌}
+use Rattle.std.proofs.Common.{ℕ, zero, suc, ◌+◌, ◌≤◌, ◌==◌, ◌≡◌, Bool, true, false, [], ◌∷◌, length, nat_le, Option, Some, None, refl, ap, ◌∙◌, subst, arith, cond, if◌then◌else◌}
 use Rattle.std.specs.List.{AllByRecursion}
 use Rattle.std.specs.Option.{option_map}
 use Rattle.std.specs.Prelude.{◌&&◌, ◌||◌}
@@ -9,7 +9,7 @@ use Rattle.pnp_model.specs.Cores.{node_at}
 use Rattle.pnp_model.specs.Frames.{Ask, asked, first_node}
 use Rattle.pnp_model.specs.Jobs as jobs
 use Rattle.pnp_model.specs.Machine as ma
-use Rattle.pnp_model.specs.Records.{Activity, Core, Doing, Job, Node, Phase, Settings, State, Step, Walk, course_of, doing_map}
+use Rattle.pnp_model.specs.Records.{Activity, Doing, Job, Node, Phase, Settings, State, Step, Walk, course_of, doing_map}
 use Rattle.pnp_model.specs.Records.Doing.{Does}
 use Rattle.pnp_model.specs.Starts as st
 use Rattle.pnp_model.specs.Walks.{has_ended, is_bad, may_fail}
