@@ -72,13 +72,16 @@ module _ (settings : Settings) (f : Front) where
   of_hand (Hand.Ended (c ∷ left)) = own (FrontEntry.Tells (fr.notice NoticeKind.RemoveComplete c None)) (fr.with_hand (fr.over left) (fr.without c f)) (λ r. refl)
 
   pub next_by : NextOf settings f (front_next settings)
-  next_by = of_hand f.hand
+  next_by = along (λ r. refl) (of_hand f.hand)
 
 -- Quiet fronts ---------------------------------------------------------------------------------
 
 nothing_left : (f : Front) (hand : Hand) (o : Option (Doing Step)) → option_map (doing_map (fr.lifted f hand)) o ≡ None → o ≡ None
 nothing_left f hand None h = refl
 nothing_left f hand (Some doing) h = absurd (cc)
+
+some_next : (doing : Doing FrontStep) → Some doing ≡ None → ⊥
+some_next doing e = absurd (cc)
 
 -- quiet with one rack, quiet with another
 pub front_quiet_same : (settings : Settings) (f : Front) (r : List Driver) → IsFrontQuiet settings f → IsFrontQuiet settings (with_drivers r f)
@@ -88,7 +91,7 @@ front_quiet_same settings f r quiet = by_next (next_by settings f)
     by_next (machine hand is) =
         let none : ma.next settings f.state ≡ None = nothing_left f hand (ma.next settings f.state) (sym (is f.state.core.rack) ∙ quiet) in
         is r ∙ ap (option_map (doing_map (fr.lifted (with_drivers r f) hand))) (quiet_same settings f.state r none)
-    by_next (own entry g is) = let bad : Some (Does (record { entry = entry; front = with_drivers f.state.core.rack g })) ≡ None = sym (is f.state.core.rack) ∙ quiet in absurd (cc)
+    by_next (own entry g is) = absurd (some_next (Does (record { entry = entry; front = with_drivers f.state.core.rack g })) (sym (is f.state.core.rack) ∙ quiet))
 
 pub no_free_step : (settings : Settings) (f : Front) (entry : FrontEntry) (new : Front) → IsFrontQuiet settings f → FreeFrontSteps settings f entry new → ⊥
 no_free_step settings f entry new quiet (answer, (next, h, e)) =

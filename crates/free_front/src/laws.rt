@@ -9,7 +9,6 @@ pub fn each_front_step_is_free()
 {}
 
 /// Where no step is next, none is free either: whether a front rests does not depend on its drivers.
-#[tactic(auto, using(crate::proofs::Nexts::no_free_step))]
 pub fn quiet_is_not_free()
     ensures { QuietIsNotFreeLaw }
 {}

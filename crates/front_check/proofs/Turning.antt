@@ -88,6 +88,31 @@ step_refused told answer f new entry label line rest lines reads says steps is s
         no_other told f answer entry new rest reads steps alone (stands (label_line (front_printed entry)) own) b there more free (here ∙ ap (λ (t : Text). t ++ 10 ∷ more) same)
     nothing script other more next here (inr (quiet, _)) = no_free_step told f entry new quiet (answer, steps)
 
+-- a run that goes on as another would
+room_same : (turn : Turn) (old new : Desk) (reader later : Reading) → told_of new ≡ told_of old → new.manager.events ≡ old.manager.events → HasRoom turn new reader later → HasRoom turn old reader later
+room_same (Turn.Line run count) old new reader later told events room = (room.0 ∙ told, let few = room.1 in omega arith)
+room_same (Turn.Over checked) old new reader later told events room = tt
+
+pub turn_same : (turn : Turn) (old new : Desk) (reader : Reading) (rest : Text) (lines : ℕ) (later : Reading) → told_of new ≡ told_of old → new.manager.events ≡ old.manager.events → front_of new ≡ front_of old
+    → IsTurn turn new reader rest lines later → IsTurn turn old reader rest lines later
+turn_same turn old new reader rest lines later told events front h =
+    record {
+      finds =
+          subst (λ (t : Settings). Finds turn t (place old reader) rest lines (λ next. place next later)) told
+          (subst (λ (f : Front). Finds turn (told_of new) (Runs f (trace true reader.passed reader.rest)) rest lines (λ next. place next later)) front h.finds);
+      room = room_same turn old new reader later told events h.room;
+      finished = h.finished;
+    }
+
+pub turns_same : {E : Type 0} (r : Result Turn E) (old new : Desk) (reader : Reading) (rest : Text) (lines : ℕ) (later : Reading) → told_of new ≡ told_of old → new.manager.events ≡ old.manager.events → front_of new ≡ front_of old
+    → IfOk r (λ turn. IsTurn turn new reader rest lines later) → IfOk r (λ turn. IsTurn turn old reader rest lines later)
+turns_same (Ok turn) old new reader rest lines later told events front h = turn_same turn old new reader rest lines later told events front h
+turns_same (Err e) old new reader rest lines later told events front h = tt
+
+pub line_turn : (old new : Desk) (reader : Reading) (rest : Text) (lines count : ℕ) → told_of new ≡ told_of old → new.manager.events ≡ old.manager.events
+    → FindsStep (Found.Line count) (told_of old) (front_of old) (front_of new) rest lines → IsTurn (Turn.Line new count) old reader rest lines reader
+line_turn old new reader rest lines count told events finds = record { finds = finds (trace true reader.passed reader.rest); room = (told, omega (arith, events)); finished = refl }
+
 pub line_refused : (told : Settings) (f : Front) (script : Trace) (rest : Text) (lines : ℕ) → answer_of rest ≡ None → Tells (Checked.No (lines + 1)) told (Runs f script) rest lines
 line_refused told f script rest lines none = tells_none told f script rest lines (λ line more next here allows. none_left 0 line more (sym (ap answer_of here) ∙ none))
 

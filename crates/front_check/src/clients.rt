@@ -2,7 +2,7 @@
 ghost use Rattle.std.specs.Prelude.{◌≡◌, true, IfOk};
 ghost use Rattle.script_reader.specs.Script as scripts;
 ghost use Rattle.trace_check.specs.Clients.{IfOfMachine};
-ghost use Rattle.front_check.specs.Clients.{IfClients, IsAhead};
+ghost use Rattle.front_check.specs.Clients.{IfClients, IsAhead, IsAheadOf, to_come};
 
 use device_ids::WantOfMemory;
 use pnp_labels::Event;
@@ -27,22 +27,44 @@ fn is_of_machine(event: &Event) -> bool
     !matches!(event, Event::Watch { .. } | Event::Unwatch { .. })
 }
 
+/// Whose event this is. It is let go.
+fn ahead_of(event: Event) -> Ahead
+    ensures { IsAheadOf result event }
+{
+    if is_of_machine(&event) {
+        Ahead::Other
+    } else {
+        Ahead::Client
+    }
+}
+
 /// What is ahead. Condition: the script was fed whole.
 fn look_ahead(reader: &mut Reader) -> Result<Ahead, WantOfMemory>
-    requires { reader.old.finished ≡ true }
+    requires finished { reader.old.finished ≡ true }
     ensures { IfOk result (λ ahead. IsAhead ahead reader.old reader.new) }
 {
-    match reader.next_event()? {
-        Next::Event(event) => {
-            if is_of_machine(&event) {
-                Ok(Ahead::Other)
-            } else {
-                Ok(Ahead::Client)
-            }
-        }
-        Next::Bad { .. } | Next::End => Ok(Ahead::Over),
+    match reader.next_event() {
+        Ok(Next::Event(event)) => Ok(ahead_of(event)),
+        Ok(Next::Bad { line: _ }) => Ok(Ahead::Over),
+        Ok(Next::End) => Ok(Ahead::Over),
         // a reader that was finished needs no more
-        Next::NeedMore => unreachable!(),
+        Ok(Next::NeedMore) => unreachable!(),
+        Err(refused) => Err(refused),
+    }
+}
+
+/// Whether a line of a client is still to come. Condition: the script was fed whole.
+fn finds_clients(reader: Reader) -> Result<bool, WantOfMemory>
+    requires finished { reader.finished ≡ true }
+    ensures { IfOk result (λ found. IfClients found (to_come reader)) }
+{
+    let mut reader = reader;
+    'events: loop {
+        match look_ahead(&mut reader)? {
+            Ahead::Client => return Ok(true),
+            Ahead::Over => return Ok(false),
+            Ahead::Other => {}
+        }
     }
 }
 
@@ -54,11 +76,5 @@ pub fn has_clients(alloc: Global, script: &[u8]) -> Result<bool, WantOfMemory>
     let mut reader = Reader::new(alloc);
     reader.feed(script)?;
     reader.finish();
-    'events: loop {
-        match look_ahead(&mut reader)? {
-            Ahead::Client => return Ok(true),
-            Ahead::Over => return Ok(false),
-            Ahead::Other => {}
-        }
-    }
+    finds_clients(reader)
 }

@@ -32,7 +32,8 @@ pub(crate) fn take_step(
 ) -> Result<Found, WantOfMemory>
     requires room { lines + length rest.now < 2 ^ 63 }
     ensures finds { IfOk result (λ found. FindsStep found (told_of run.old) (front_of run.old) (front_of run.new) rest.now lines) }
-    ensures same { run.new.manager ≡ record run.old.manager { state = run.new.manager.state } }
+    ensures told { told_of run.new ≡ told_of run.old }
+    ensures events { run.new.manager.events ≡ run.old.manager.events }
 {
     let not = Checked::No { line: lines + 1 };
     let Some(answer) = answer_of(rest) else {

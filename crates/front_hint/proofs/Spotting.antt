@@ -28,7 +28,7 @@ use Rattle.trace_check.proofs.FewIds.{few_ids}
 use Rattle.trace_check.specs.Turns.{IfFront}
 use Rattle.front_hint.specs.declared.spot.Spot.{Spot}
 use Rattle.front_hint.specs.declared.spot.Move.{Move}
-use Rattle.front_hint.specs.Spots.{place, AllowsNone, IsMove, IsFirst, IsEventMove}
+use Rattle.front_hint.specs.Spots.{place, AllowsNone, HasStepped, IsMove, IsFirst, IsEventMove}
 
 -- The first line --------------------------------------------------------------------------
 
@@ -196,3 +196,24 @@ pub bad_reads : {E : Type 0} (r : Result Move E) (answer : Answer) (told : Setti
 bad_reads r answer told f old new number finished (moves, _, _, is, stuck) h =
     read_as r answer told f old (stops number)
     (read_on old new finished moves ∙ ap (trace true new.passed) (sym (append_none new.rest)) ∙ stuck.same true [] new.passed (λ shut. (refl, refl)) ∙ ap stops (sym is)) h
+
+-- Runs that go on --------------------------------------------------------------------------
+
+pub step_moves : (answer : Answer) (old new : Desk) (reader : Reading) (line : Vec ℕ Global) → told_of new ≡ told_of old → new.manager.events ≡ old.manager.events → reader.finished ≡ true
+    → old.manager.events + length reader.rest ≤ 2 ^ 24 → HasStepped answer (told_of old) (front_of old) line.items (front_of new)
+    → IsMove answer (told_of old) (place (Spot.Runs old reader)) (Move.Line line (Spot.Runs new reader))
+step_moves answer old new reader line told events finished room (entry, steps, is) =
+    record {
+      text = label_line (front_printed entry);
+      is = is;
+      allows = inl (entry, front_of new, steps, refl, refl);
+      ready = (finished, subst (λ n. n + length reader.rest ≤ 2 ^ 24) (sym events) room);
+      of = told;
+    }
+
+-- a run that rests as another would
+pub rest_moves : {E : Type 0} (r : Result Move E) (answer : Answer) (old new : Desk) (reader : Reading) → told_of new ≡ told_of old → front_of new ≡ front_of old
+    → IfOk r (λ next. IsMove answer (told_of new) (Runs (front_of new) (trace true reader.passed reader.rest)) next) → IfOk r (λ next. IsMove answer (told_of old) (place (Spot.Runs old reader)) next)
+rest_moves r answer old new reader told front h =
+    subst (λ (t : Settings). IfOk r (λ next. IsMove answer t (place (Spot.Runs old reader)) next)) told
+    (subst (λ (f : Front). IfOk r (λ next. IsMove answer (told_of new) (Runs f (trace true reader.passed reader.rest)) next)) front h)

@@ -63,7 +63,8 @@ fn step_line(
 ) -> Result<Option<Vec<u8>>, WantOfMemory>
     ensures steps { IfOk result (λ line. MatchOption line (IsFrontQuiet (told_of run.old) (front_of run.old) × (front_of run.new ≡ front_of run.old))
         (λ line. HasStepped answer (told_of run.old) (front_of run.old) line.items (front_of run.new))) }
-    ensures same { run.new.manager ≡ record run.old.manager { state = run.new.manager.state } }
+    ensures told { told_of run.new ≡ told_of run.old }
+    ensures events { run.new.manager.events ≡ run.old.manager.events }
 {
     let Some(label) = run.step(answer)? else {
         return Ok(None);

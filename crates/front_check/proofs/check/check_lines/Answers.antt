@@ -25,5 +25,5 @@ lines-preserved c =
       leads =
           λ checked tells. c.lines.invariant.leads checked
           (line_leads c.lines.run c.in-Line.next c.lines.reader c.take_line.new.reader c.lines.rest.now c.lines.lines c.in-Line.count checked turn
-          (subst (λ (t : Text). Tells checked (settings c.in-Line.next) (place c.in-Line.next c.take_line.new.reader) t (c.lines.lines + 1)) (take_rest c.lines.rest.now c.in-Line.count) tells));
+          (subst (λ (t : Text). Tells checked (told_of c.in-Line.next) (place c.in-Line.next c.take_line.new.reader) t (c.lines.lines + 1)) (take_rest c.lines.rest.now c.in-Line.count) tells));
     }

@@ -1,6 +1,3 @@
-use Rattle.std.proofs.Common.{◌<◌, ◌^◌, sym, subst}
-use Rattle.notify_front.specs.Desks.{Desk, front_of, told_of}
-use Rattle.notify_front.specs.Fronts.{IsFrontQuiet}
 use Rattle.free_front.proofs.front.FreeFront.apply.Goals as goal
 
 pub apply-requires-clause-told : goal.apply-requires-clause-told

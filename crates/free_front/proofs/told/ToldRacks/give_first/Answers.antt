@@ -1,4 +1,4 @@
-use Rattle.std.proofs.Common.{◌≡◌, ◌<◌, length, slice_get, Some, ap, refl, arith}
+use Rattle.std.proofs.Common.{◌≡◌, slice_get, Some, ap, refl, arith}
 use Rattle.free_front.specs.Racks.{named_all}
 use Rattle.free_front.proofs.Names.{first_of, first_given}
 use Rattle.free_front.proofs.told.ToldRacks.give_first.Goals as goal

@@ -1,7 +1,7 @@
 use Rattle.std.proofs.Common.{◌≡◌, ◌++◌, ap, ◌∙◌}
 use Rattle.script_reader.specs.Reading.{Reading}
 use Rattle.front_check.proofs.Turning.{whole}
-use Rattle.front_check.proofs.check.check_trace.Goals as goal
+use Rattle.front_check.proofs.check.check_front_trace.Goals as goal
 
 pub returns : goal.returns
 returns c =
