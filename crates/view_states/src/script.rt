@@ -3,7 +3,7 @@
 
 /// What the browser may run and load: the script of this sum alone.
 pub const POLICY: &[u8] =
-    b"default-src 'none'; style-src 'unsafe-inline'; script-src 'sha256-ENmL6zqLImf/7/Gd3IoJCjUlu5oB+RZum5Fnk7TZM7s='";
+    b"default-src 'none'; style-src 'unsafe-inline'; script-src 'sha256-dc2CXKQxkQDk5ZiTt19hemvcbg6Z+NhyrQorfaBrxH8='";
 
 /// The script. No character of it is escaped.
 pub fn script_text() -> &'static [u8] {
@@ -364,6 +364,10 @@ pub fn script_text() -> &'static [u8] {
     for (let group = group_of[row]; group; group = group.outer) if (group.is_stale) settle(group);
     look();
     bring(codes[row]);
+    // What came into view may be higher than it was taken for.
+    requestAnimationFrame(function () {
+      setTimeout(function () { if (here === row) bring(codes[row]); }, 0);
+    });
   }
 
   // A line that is not between the heads and what stands below comes to the middle.
