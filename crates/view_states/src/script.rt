@@ -3,7 +3,7 @@
 
 /// What the browser may run and load: the script of this sum alone.
 pub const POLICY: &[u8] =
-    b"default-src 'none'; style-src 'unsafe-inline'; script-src 'sha256-2f8KvJcyKvg5ydUGSWgfw8gzQQ6JC3fsEzUuHqmzXDs='";
+    b"default-src 'none'; style-src 'unsafe-inline'; script-src 'sha256-dc2CXKQxkQDk5ZiTt19hemvcbg6Z+NhyrQorfaBrxH8='";
 
 /// The script. No character of it is escaped.
 pub fn script_text() -> &'static [u8] {
@@ -171,9 +171,12 @@ pub fn script_text() -> &'static [u8] {
     return fold === undefined ? 1 : fold_rows[fold].length + 1;
   }
 
-  // Rows, devices and ranges stand in groups. The browser lays out those in view; the others are as high as they would be.
+  // Rows, devices and ranges stand in groups, and groups of rows in groups again, so that many are hidden at once. The browser lays out
+  // those in view; the others are as high as they would be.
   for (const list of grid.querySelectorAll(`ol`)) {
-    if (list.parentNode === grid ? true : !is_most(list.children.length, GROUP)) put(list.children, depth);
+    if (list.parentNode === grid ? false : is_most(list.children.length, GROUP)) continue;
+    put(list.children, depth);
+    put(list.children, function () { return 1; });
   }
   for (const list of document.querySelectorAll(`.device-tree`)) put(list.children, function () { return 1; });
   for (const table of document.querySelectorAll(`.map-table`)) {
@@ -361,6 +364,10 @@ pub fn script_text() -> &'static [u8] {
     for (let group = group_of[row]; group; group = group.outer) if (group.is_stale) settle(group);
     look();
     bring(codes[row]);
+    // What came into view may be higher than it was taken for.
+    requestAnimationFrame(function () {
+      setTimeout(function () { if (here === row) bring(codes[row]); }, 0);
+    });
   }
 
   // A line that is not between the heads and what stands below comes to the middle.
