@@ -31,14 +31,14 @@ use Rattle.pnp_model.specs.States.{activity_at, device_born, entered, is_activit
 use Rattle.pnp_model.specs.Tasks as tk
 use Rattle.pnp_model.specs.Tests.{has_same}
 use Rattle.pnp_model.specs.Walks.{has_ended, is_bad}
-use Rattle.pnp_laws.specs.Effects.{Acting, ActivityEffect, AnswerEffect, Enters, NodeEffect, TaskEffect}
-use Rattle.pnp_laws.specs.Kept.{Fits, IsGood}
+use Rattle.pnp_laws.specs.Effects.{Acting, ActivityEffect, AnswerEffect, Effect, Enters, NodeEffect, TaskEffect}
+use Rattle.pnp_laws.specs.Kept.{Alone, Fits, IsGood}
 use Rattle.pnp_laws.specs.Reached.{IsReached}
 use Rattle.pnp_laws.proofs.EffectViews.{Origin, acting_at, acting_fits, origin}
 use Rattle.pnp_laws.proofs.EffectsOf.{effect_goes}
 use Rattle.pnp_laws.proofs.Lookups.{changed_none, ended_other, ended_same, entered_other, entered_same, first_is, found_self, joined_from, node_from, own_serial, phase_set_other, phase_set_same, some_same}
 use Rattle.pnp_laws.proofs.Passing.{AllBy, AllNext, all_step}
-use Rattle.pnp_laws.proofs.Reaching.{kept}
+use Rattle.pnp_laws.proofs.Reaching.{kept, reached_on}
 use Rattle.pnp_laws.proofs.Runs.{root_is}
 use Rattle.pnp_laws.proofs.RunsStacks.{stacks_fit}
 use Rattle.pnp_laws.proofs.RunsStand.{reaches_kept}
@@ -383,9 +383,9 @@ module _ (settings : Settings) where
   module _ (s : State) (label : Label) (t : State) (o : Job) (runs : s.operation ≡ Some o) (old : IsGood s) (now : IsGood t) (goes : Goes settings s (Did label) t) (each : Each s.core.rack s.core.nodes s.activities) where
     -- nothing is being started
     idle : s.activities ≡ []
-    idle = subst (λ (x : Option Job). Rattle.pnp_laws.specs.Kept.Alone x s.activities) runs old.alone
+    idle = subst (λ (x : Option Job). Alone x s.activities) runs old.alone
 
-    abbrev effect : Rattle.pnp_laws.specs.Effects.Effect s (Did label) t
+    abbrev effect : Effect s (Did label) t
     effect = effect_goes settings s (Did label) t goes
 
     was : (k : ℕ) (x : Node) → k ≢ 0 → node_at k s.core.nodes ≡ Some x → x.stack ≢ [] → HasChoice settings s.core.rack x.hw x.compat x.stack
@@ -496,7 +496,7 @@ module _ (settings : Settings) where
         by_operation : (o : Option Job) → s.operation ≡ o → Each s.core.rack t.core.nodes t.activities
         by_operation None none = idle_each s none (reaches_kept settings rack reached.0 s reached.1).good each (record { label = label; state = t }) goes
         by_operation (Some o) runs =
-            let next = Rattle.pnp_laws.proofs.Reaching.reached_on settings rack s (Did label) t reached goes in
+            let next = reached_on settings rack s (Did label) t reached goes in
             operates s label t o runs (reaches_kept settings rack reached.0 s reached.1).good (reaches_kept settings rack next.0 t next.1).good goes each
 
     chosen_goes : (s : State) (entry : Entry) (t : State) → IsReached settings rack s → AllChosen s → Goes settings s entry t → AllChosen t

@@ -2,6 +2,7 @@
 use Rattle.std.proofs.Common.{ℕ, ◌≡◌, ◌≢◌, ◌==◌, Bool, true, false, List, [], ◌∷◌, ◌++◌, Option, Some, None, refl, sym, ap, ap₂, ◌∙◌, subst, arith, cond, if◌then◌else◌}
 use Rattle.std.specs.List.{find, list_any}
 use Rattle.std.specs.Prelude.{◌||◌}
+use Rattle.std.specs.Str.{bytes_eq}
 use Rattle.std.proofs.lemmas.Bool.Decides.{nat_tests}
 use Rattle.std.proofs.lemmas.Slice.Eq.{bytes_eq-Decides}
 use Rattle.device_ids.specs.Folding.{folded, same}
@@ -45,14 +46,12 @@ use Rattle.pnp_pairs.proofs.HeldFits.{finds_some}
 use Rattle.pnp_pairs.proofs.Leading.{Leads, OnlySteps}
 use Rattle.pnp_pairs.proofs.OneRun.{one_run}
 use Rattle.pnp_pairs.proofs.Placing.{find_put, put, put_changed, put_self}
+use Rattle.pnp_pairs.proofs.SameDrivers.{same_back}
 
 -- Paths that are one but for their letters --------------------------------------------------------------------
 
-same_back : (a b : Text) → same a b ≡ true → same b a ≡ true
-same_back a b e = (bytes_eq-Decides (folded b) (folded a)).1 (sym ((bytes_eq-Decides (folded a) (folded b)).0 e))
-
 same_as : (a b c : Text) → same a b ≡ true → same a c ≡ same b c
-same_as a b c e = ap (λ (x : List ℕ). Rattle.std.specs.Str.bytes_eq x (folded c)) ((bytes_eq-Decides (folded a) (folded b)).0 e)
+same_as a b c e = ap (λ (x : List ℕ). bytes_eq x (folded c)) ((bytes_eq-Decides (folded a) (folded b)).0 e)
 
 has_same_as : (a b : Text) (paths : List Text) → same a b ≡ true → has_same a paths ≡ has_same b paths
 has_same_as a b [] e = refl

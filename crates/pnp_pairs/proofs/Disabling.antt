@@ -4,6 +4,7 @@ use Rattle.std.specs.List.{AllByRecursion}
 use Rattle.std.specs.Option.{option_map}
 use Rattle.std.specs.Prelude.{map}
 use Rattle.std.proofs.lemmas.Bool.Decides.{nat_tests}
+use Rattle.pnp_labels.specs.declared.label.Label.{Label}
 use Rattle.pnp_labels.specs.declared.label.OpKind.{OpKind}
 use Rattle.pnp_labels.specs.declared.states.DevState.TheVariants.{RemovePending, Started}
 use Rattle.pnp_labels.specs.declared.states.Problem.{Problem}
@@ -12,6 +13,7 @@ use Rattle.pnp_model.specs.Cores.{bare, forget, node_at, set_problem, set_state,
 use Rattle.pnp_model.specs.Frames.{Ask, asked, first_node}
 use Rattle.pnp_model.specs.Handles.{is_open}
 use Rattle.pnp_model.specs.Jobs as jobs
+use Rattle.pnp_model.specs.Keyed.{those}
 use Rattle.pnp_model.specs.Machine as ma
 use Rattle.pnp_model.specs.Records.{Core, Doing, Duty, Job, Node, Relation, Settings, Stage, State, doing_map}
 use Rattle.pnp_model.specs.Records.Doing.{Does}
@@ -59,7 +61,7 @@ module _ (settings : Settings) (s : State) (n : Node) (d : ℕ) (ds : List ℕ) 
 
   -- the operation, for the device alone
   abbrev alone : Job
-  alone = record (jobs.job_of OpKind.Disable n) { set = k ∷ []; ejecting = map (λ r. r.member) (Rattle.pnp_model.specs.Keyed.those (rm.is_ejecting (k ∷ [])) s.core.relations) }
+  alone = record (jobs.job_of OpKind.Disable n) { set = k ∷ []; ejecting = map (λ r. r.member) (those (rm.is_ejecting (k ∷ [])) s.core.relations) }
 
   abbrev begun : Job
   begun = jobs.stands alone (k ∷ []) Stage.Next
@@ -159,7 +161,7 @@ module _ (settings : Settings) (s : State) (n : Node) (d : ℕ) (ds : List ℕ) 
       let own : (k == k) ≡ true = grind (arith, nat_tests) in
       ap (λ (o : Option Node). option_map (doing_map (ma.job_lifted now)) (option_map (λ (m : jobs.JobMove). Doing.Does m) (rm.acts c settling s.handles Stage.Settling o))) gone_at
       ∙ ap (λ (b : Bool). Some (Does (ma.job_lifted now
-      (if b then rm.leaves c settling (gone n) (Rattle.pnp_labels.specs.declared.label.Label.Label.Leave n.path) (jobs.Beside.Left n.path n.born) else if k == k then rm.remains c settling (gone n) Problem.Disabled (jobs.Beside.Disabled n.path)
+      (if b then rm.leaves c settling (gone n) (Label.Leave n.path) (jobs.Beside.Left n.path n.born) else if k == k then rm.remains c settling (gone n) Problem.Disabled (jobs.Beside.Disabled n.path)
       else rm.remains c settling (gone n) Problem.Held jobs.Beside.On)))) stays_over
       ∙ ap (λ (b : Bool). Some (Does (ma.job_lifted now
       (if b then rm.remains c settling (gone n) Problem.Disabled (jobs.Beside.Disabled n.path) else rm.remains c settling (gone n) Problem.Held jobs.Beside.On)))) own

@@ -3,14 +3,14 @@ use Rattle.std.proofs.Common.{ℕ, ◌≤◌, ◌≡◌, ◌≢◌, ◌⊎◌, �
 use Rattle.std.specs.Prelude.{find, is_none, nat_lt}
 use Rattle.std.specs.List.{list_any}
 use Rattle.std.proofs.lemmas.Bool.Decides.{nat_tests}
-use Rattle.std.proofs.lemmas.Slice.Eq.{bytes_eq-Decides}
-use Rattle.device_ids.specs.Folding.{folded, same}
+use Rattle.device_ids.specs.Folding.{same}
 use Rattle.resource_reqs.specs.Resources.{Reqs, clashes}
 use Rattle.resource_reqs.proofs.Counts.{contains_cons, contains_nil}
 use Rattle.pnp_labels.specs.Texts.{Text}
 use Rattle.pnp_labels.specs.declared.deed.Deed.{Deed}
 use Rattle.pnp_labels.specs.declared.event.Event.{Event}
 use Rattle.pnp_labels.specs.declared.label.EventWord.{EventWord}
+use Rattle.pnp_labels.specs.declared.label.OpKind.{OpKind}
 use Rattle.pnp_labels.specs.declared.label.Reason.{Reason}
 use Rattle.pnp_labels.specs.declared.words.Minor.{Minor}
 use Rattle.pnp_labels.specs.declared.words.RelKind.{RelKind}
@@ -19,15 +19,15 @@ use Rattle.pnp_model.specs.Cores.{node_at}
 use Rattle.pnp_model.specs.Events as events
 use Rattle.pnp_model.specs.Events.{did, happens, has_children, is_relation, operation_waits, refused, waits_for}
 use Rattle.pnp_model.specs.Frames.{held_by}
-use Rattle.pnp_model.specs.Handles.{is_handle_of}
+use Rattle.pnp_model.specs.Handles.{closed_with, is_handle_of}
 use Rattle.pnp_model.specs.Keyed.{changed_first}
 use Rattle.pnp_model.specs.Machine.{phase_walk}
 use Rattle.pnp_model.specs.Records.{Activity, Device, Duty, Node, Relation, State, Step, Task}
-use Rattle.pnp_model.specs.States.{activity_at, device_of, has_below, is_activity, is_in_world, list_node, node_born, node_of, requires, unplug, with_phase}
+use Rattle.pnp_model.specs.States.{activity_at, append_task, device_of, enable_path, has_below, is_activity, is_in_world, list_node, node_born, node_of, plug, requires, unplug, with_core, with_phase}
 use Rattle.pnp_model.specs.Tests.{has, has_same, is_scripted, is_started, is_surprise_removed}
 use Rattle.pnp_model.specs.Trees.{dependents}
 use Rattle.pnp_model.specs.Windows.{is_window_on}
-use Rattle.pnp_model.proofs.Guards.{by_found, by_test}
+use Rattle.pnp_model.proofs.Guards.{by_found, by_test, none_if}
 use Rattle.pnp_laws.specs.Kept.{Ascending}
 use Rattle.pnp_laws.proofs.Decides.{contains_here, contains_later}
 use Rattle.pnp_laws.proofs.Lookups.{find_passes, node_found}
@@ -35,6 +35,7 @@ use Rattle.pnp_promises.proofs.LinesIdle.{none_passes}
 use Rattle.pnp_pairs.specs.Parts.{IsApart, IsOfPart}
 use Rattle.pnp_pairs.proofs.PartOperations.{in_world_still}
 use Rattle.pnp_pairs.proofs.PartSteps.{in_changed, in_more}
+use Rattle.pnp_pairs.proofs.SameDrivers.{same_back}
 
 -- they stand apart, and what is under way is of them
 pub record Leaves (mine : ℕ → Bool) (step : Step) : Type 0 where
@@ -69,9 +70,6 @@ was_changed born reqs (x ∷ xs) d c = by_test_of (x.born == born) c (was_change
 same_two : (a b c d : Text) → a ≡ c → b ≡ d → same a b ≡ true → same c d ≡ true
 same_two a b c d e q h = subst (λ (x : Text). same x d ≡ true) e (subst (λ (x : Text). same a x ≡ true) q h)
 
-same_back : (a b : Text) → same a b ≡ true → same b a ≡ true
-same_back a b e = (bytes_eq-Decides (folded b) (folded a)).1 (sym ((bytes_eq-Decides (folded a) (folded b)).0 e))
-
 module _ (mine : ℕ → Bool) (s : State) (apart : IsApart mine s) (tasks : (task : Task) → Contains s.tasks task → mine task.serial ≡ true) (starts : (a : Activity) → Contains s.activities a → mine a.serial ≡ true) (order : Ascending 0 s.core.nodes) where
   abbrev E : Step → Type 0
   E step = Leaves mine step
@@ -104,9 +102,9 @@ module _ (mine : ℕ → Bool) (s : State) (apart : IsApart mine s) (tasks : (ta
   more new own task c = elim (in_more s.tasks new task c) [ inl e ↦ ap (λ (x : Task). mine x.serial) e ∙ own | inr q ↦ tasks task q ]
 
   -- one task more, for one of them
-  tasked : (kind : Duty) (n : Node) (deed : Deed) → mine n.serial ≡ true → E (did deed (Rattle.pnp_model.specs.States.append_task kind n.serial s))
+  tasked : (kind : Duty) (n : Node) (deed : Deed) → mine n.serial ≡ true → E (did deed (append_task kind n.serial s))
   tasked kind n deed own =
-      record { apart = apart_still (Rattle.pnp_model.specs.States.append_task kind n.serial s) refl refl refl same_world; tasks = more (record { kind = kind; serial = n.serial }) own; starts = starts }
+      record { apart = apart_still (append_task kind n.serial s) refl refl refl same_world; tasks = more (record { kind = kind; serial = n.serial }) own; starts = starts }
 
   -- nodes, relations, world, tasks and starts stay
   yes : (t : State) (deed : Deed) → t.next_serial ≡ s.next_serial → t.core.nodes ≡ s.core.nodes → t.core.relations ≡ s.core.relations → t.world ≡ s.world → t.tasks ≡ s.tasks → t.activities ≡ s.activities → E (did deed t)
@@ -146,7 +144,7 @@ module _ (mine : ℕ → Bool) (s : State) (apart : IsApart mine s) (tasks : (ta
     nobody : (d : Device) → Contains s.world d → same d.path new.path ≡ true → ⊥
     nobody d c h = let no_one = none_passes (λ (x : Device). same x.path new.path) s.world d free c in cc
 
-    plugged : IsApart mine (Rattle.pnp_model.specs.States.plug new s)
+    plugged : IsApart mine (plug new s)
     plugged =
         record {
           later = apart.later;
@@ -181,11 +179,11 @@ module _ (mine : ℕ → Bool) (s : State) (apart : IsApart mine s) (tasks : (ta
       by_found E s.operation _ _ (λ q. completes_start n minor ok) (λ j q.
       by_test E (not (operation_waits minor n.serial j)) _ _ (λ r. completes_start n minor ok) (λ r. yes _ _ refl refl refl refl refl refl)))
 
-  enabled : (path : Text) (own : Text) → ((n : Node) → node_of path s.core.nodes ≡ Some n → mine n.serial ≡ true) → E (did (Deed.Enabled own) (events.start_node (node_of path s.core.nodes) (Rattle.pnp_model.specs.States.enable_path path s)))
+  enabled : (path : Text) (own : Text) → ((n : Node) → node_of path s.core.nodes ≡ Some n → mine n.serial ≡ true) → E (did (Deed.Enabled own) (events.start_node (node_of path s.core.nodes) (enable_path path s)))
   enabled path own of_them = by_node (node_of path s.core.nodes) refl
     where
-      by_node : (o : Option Node) → node_of path s.core.nodes ≡ o → E (did (Deed.Enabled own) (events.start_node o (Rattle.pnp_model.specs.States.enable_path path s)))
-      by_node None e = yes (Rattle.pnp_model.specs.States.enable_path path s) (Deed.Enabled own) refl refl refl refl refl refl
+      by_node : (o : Option Node) → node_of path s.core.nodes ≡ o → E (did (Deed.Enabled own) (events.start_node o (enable_path path s)))
+      by_node None e = yes (enable_path path s) (Deed.Enabled own) refl refl refl refl refl refl
       by_node (Some n) e =
           record {
             apart = record { later = apart.later; below = apart.below; members = apart.members; one_path = apart.one_path; returns = apart.returns };
@@ -193,16 +191,16 @@ module _ (mine : ℕ → Bool) (s : State) (apart : IsApart mine s) (tasks : (ta
             starts = starts;
           }
 
-  closed : (n : Node) (b last : Bool) → mine n.serial ≡ true → E (did (Deed.HandleClosed n.path) (events.finish_due n last (events.with_handles (Rattle.pnp_model.specs.Handles.closed_with n.serial s.handles b) s)))
+  closed : (n : Node) (b last : Bool) → mine n.serial ≡ true → E (did (Deed.HandleClosed n.path) (events.finish_due n last (events.with_handles (closed_with n.serial s.handles b) s)))
   closed n b true own =
       record {
         apart = record { later = apart.later; below = apart.below; members = apart.members; one_path = apart.one_path; returns = apart.returns };
-        tasks = more (record { kind = Duty.Begins Rattle.pnp_labels.specs.declared.label.OpKind.OpKind.Finish; serial = n.serial }) own;
+        tasks = more (record { kind = Duty.Begins OpKind.Finish; serial = n.serial }) own;
         starts = starts;
       }
-  closed n b false own = yes (events.with_handles (Rattle.pnp_model.specs.Handles.closed_with n.serial s.handles b) s) (Deed.HandleClosed n.path) refl refl refl refl refl refl
+  closed n b false own = yes (events.with_handles (closed_with n.serial s.handles b) s) (Deed.HandleClosed n.path) refl refl refl refl refl refl
 
-  related : (kind : RelKind) (a b : Node) → (mine a.serial ≡ true → mine b.serial ≡ true) → E (did (Deed.Related kind a.path b.path) (Rattle.pnp_model.specs.States.with_core (events.add_relation (record { kind = kind; owner = a.serial; member = b.serial }) s.core) s))
+  related : (kind : RelKind) (a b : Node) → (mine a.serial ≡ true → mine b.serial ≡ true) → E (did (Deed.Related kind a.path b.path) (with_core (events.add_relation (record { kind = kind; owner = a.serial; member = b.serial }) s.core) s))
   related kind a b of_them =
       let new : Relation = record { kind = kind; owner = a.serial; member = b.serial } in
       record {
@@ -224,7 +222,7 @@ module _ (mine : ℕ → Bool) (s : State) (apart : IsApart mine s) (tasks : (ta
       tested (is_some (device_of path s.world)) _ _ _ (λ free.
       tested (not (nat_le (length s.world) 4096)) _ _ _ (λ room.
       let d : Device = record { born = s.next_born; parent = over.born; path = path; hw = hw; compat = compat; reqs = reqs } in
-      listed (Rattle.pnp_model.specs.States.plug d s) over.born (Deed.Plugged path) (plugged over d refl (Rattle.pnp_model.proofs.Guards.none_if (device_of path s.world) free) (λ k n at born. own over k n e at born)) refl refl refl (λ k n at born. own over k n e at born))))
+      listed (plug d s) over.born (Deed.Plugged path) (plugged over d refl (none_if (device_of path s.world) free) (λ k n at born. own over k n e at born)) refl refl refl (λ k n at born. own over k n e at born))))
   event_mine (Event.Pull path) own =
       found (device_of path s.world) _ _ _ (λ d e.
       tested (d.born == 0) _ _ _ (λ q.
@@ -248,8 +246,8 @@ module _ (mine : ℕ → Bool) (s : State) (apart : IsApart mine s) (tasks : (ta
   event_mine (Event.Change path reqs) own =
       found (node_of path s.core.nodes) _ _ _ (λ n e. tested (not (is_in_world s.world n.born)) _ _ _ (λ q. tested (n.serial == 0) _ _ _ (λ r. tested (not (is_started n.state)) _ _ _ (λ t.
       record {
-        apart = apart_still (Rattle.pnp_model.specs.States.append_task (Duty.Begins Rattle.pnp_labels.specs.declared.label.OpKind.OpKind.Change) n.serial (Rattle.pnp_model.specs.States.change_device n.born reqs s)) refl refl refl (was_changed n.born reqs s.world);
-        tasks = more (record { kind = Duty.Begins Rattle.pnp_labels.specs.declared.label.OpKind.OpKind.Change; serial = n.serial }) (own n e);
+        apart = apart_still (append_task (Duty.Begins OpKind.Change) n.serial (Rattle.pnp_model.specs.States.change_device n.born reqs s)) refl refl refl (was_changed n.born reqs s.world);
+        tasks = more (record { kind = Duty.Begins OpKind.Change; serial = n.serial }) (own n e);
         starts = starts;
       }))))
   event_mine (Event.Window path res) own =

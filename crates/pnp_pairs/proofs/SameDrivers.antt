@@ -87,6 +87,10 @@ found_letters service (x ∷ xs) k at =
     by_name None e = absurd (cc)
     by_name (Some own) e = e
 
+-- where one text is another but for its letters, so is that one
+pub same_back : (a b : Text) → same a b ≡ true → same b a ≡ true
+same_back a b e = (bytes_eq-Decides (folded b) (folded a)).1 (sym ((bytes_eq-Decides (folded a) (folded b)).0 e))
+
 -- two names that are a third but for their letters are one but for their letters
 same_letters : (a b c : Text) → same a c ≡ true → same b c ≡ true → same a b ≡ true
 same_letters a b c h g = (bytes_eq-Decides (folded a) (folded b)).1 ((bytes_eq-Decides (folded a) (folded c)).0 h ∙ sym ((bytes_eq-Decides (folded b) (folded c)).0 g))
