@@ -17,5 +17,5 @@ loop-at-preserved-clause-read g c =
     c.loop-at.invariant.read named meant
     in
     subst (λ (t : List Inf). AreRead (g.F.Files.contents c.args.files.now) (texts (take (c.loop-at.at + 1) c.args.names.now)) t) (sym c.in_ok-keep.ensures)
-    (subst (λ (t : List Text). AreRead (g.F.Files.contents c.args.files.now) t (c.loop-at.infs.items ++ c.in_ok-inf.inf ∷ [])) 
+    (subst (λ (t : List Text). AreRead (g.F.Files.contents c.args.files.now) t (c.loop-at.infs.items ++ c.in_ok-inf.inf ∷ []))
     (names_next c.args.names.now c.loop-at.at c.index-names-at.result c.index-names-at.is c.loop-at-test.true) more)
