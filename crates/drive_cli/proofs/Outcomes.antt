@@ -1,6 +1,6 @@
 -- What a status says, from what the calls say that led to it.
-use Rattle.std.proofs.Common.{ℕ, ◌≡◌, ◌⊎◌, inl, inr, ◌≤◌, List, [], ◌∷◌, ◌++◌, map, take, Option, Some, None, Result, Ok, Err, IfOk, OnErr, refl, sym, ap, ◌∙◌, subst, Vec, Global, arith}
-use Rattle.std.proofs.lemmas.List.{append_assoc}
+use Rattle.std.proofs.Common.{ℕ, suc, ◌+◌, ◌<◌, ◌≡◌, ◌⊎◌, inl, inr, ◌≤◌, get_or, length, List, [], ◌∷◌, ◌++◌, map, take, Option, Some, None, Result, Ok, Err, IfOk, OnErr, refl, sym, ap, ◌∙◌, subst, Vec, Global, arith}
+use Rattle.std.proofs.Math.Seq.{take-suc}
 use Rattle.inf_reader.specs.Meaning.{inf}
 use Rattle.inf_reader.specs.declared.parts.Inf.{Inf}
 use Rattle.live_io.specs.Turns.{Past}
@@ -68,3 +68,13 @@ are_more contents names infs name bytes i h here is = record {
 
 pub texts_more : (names : List (Vec ℕ Global)) (name : Vec ℕ Global) → texts (names ++ name ∷ []) ≡ texts names ++ name.items ∷ []
 texts_more names name = map_on (λ (v : Vec ℕ Global). v.items) names name
+
+-- the names up to the next one
+pub names_next : (names : List (Vec ℕ Global)) (at : ℕ) (name : Vec ℕ Global) → name ≡ get_or names at name → at < length names
+    → texts (take at names) ++ name.items ∷ [] ≡ texts (take (at + 1) names)
+names_next names at name is inside =
+    ap (λ (v : Vec ℕ Global). texts (take at names) ++ v.items ∷ []) is ∙ sym (texts_more (take at names) (get_or names at name)) ∙ ap texts (sym (take-suc names at name inside))
+    ∙ ap (λ (k : ℕ). texts (take k names)) (suc_is at)
+  where
+    suc_is : (k : ℕ) → suc k ≡ k + 1
+    suc_is k = omega arith
