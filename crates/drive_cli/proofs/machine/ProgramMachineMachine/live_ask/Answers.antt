@@ -13,8 +13,6 @@ returns c =
     c.in_ok-ask.ask c.self.invariant (sym c.in-Some.ensures.query) (sym c.in-Some-driver_name.ensures) live c.in-Some.ensures.node c.in_ok-ask.ensures.words c.in_ok-ask.ensures.driver
     c.in_ok-ask.ensures.may_pend
     in
-    first_of (
-      here,
-      subst (λ (f : Free). IfAsks (Some c.in_ok-ask.ask) f.state (live_query (lives_of c.args.live.now) f.state)) c.self.view_is here,
-      subst (λ (f : Free). IfAsks (Some c.in_ok-ask.ask) f.state (live_query (lives_of c.args.live.now) f.state)) (sym c.self.view_is) here,
-    )
+    let view = c.self.view_is in
+    let is : c.self.inside.run ≡ c.args.self.now = cc in
+    subst (λ (f : Free). IfAsks (Some c.in_ok-ask.ask) f.state (live_query (lives_of c.args.live.now) f.state)) is here
