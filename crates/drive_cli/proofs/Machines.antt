@@ -1,6 +1,5 @@
 -- The words of an ask, and that the machine of the program is one of a live run.
-use Rattle.std.proofs.Common.{ℕ, ◌≡◌, List, [], ◌∷◌, ◌++◌, map, Option, Some, None, Result, Ok, Err, IfOk, OnErr, refl, sym, ap, ◌∙◌, subst}
-use Rattle.std.proofs.lemmas.List.{append_assoc, append-nil}
+use Rattle.std.proofs.Common.{ℕ, ◌≡◌, List, [], ◌∷◌, ◌++◌, map, Option, Some, None, Result, Ok, Err, IfOk, OnErr, refl, sym, ap, ◌∙◌, subst, append_assoc}
 use Rattle.pnp_labels.specs.Texts.{Text, after_spaces, res_text}
 use Rattle.pnp_labels.specs.declared.event.Event.{Event}
 use Rattle.pnp_labels.specs.declared.label.Label.{Label}
@@ -18,7 +17,9 @@ use Rattle.live_model.specs.Lived.{IsLived}
 use Rattle.live_model.specs.Notes.{ask_words, held_by}
 
 pub words_more : (what path driver : Text) (more : List Text) → ask_words what path driver [] ++ after_spaces more ≡ ask_words what path driver more
-words_more what path driver more = simp (append_assoc, append-nil)
+words_more what path driver more =
+    append_assoc what (32 ∷ (path ++ 32 ∷ (driver ++ []))) (after_spaces more)
+    ∙ ap (λ (t : Text). what ++ 32 ∷ t) (append_assoc path (32 ∷ (driver ++ [])) (after_spaces more) ∙ ap (λ (t : Text). path ++ 32 ∷ t) (append_assoc driver [] (after_spaces more)))
 
 -- no other request tells what a device holds
 pub other_held : (minor : Minor) (n : Option Node) → (minor ≡ Minor.Start → ⊥) → held_by (AskWhat.Irp minor) n ≡ []

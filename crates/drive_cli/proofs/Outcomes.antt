@@ -1,20 +1,23 @@
 -- What a status says, from what the calls say that led to it.
-use Rattle.std.proofs.Common.{ℕ, ◌≡◌, ◌⊎◌, inl, inr, ◌≤◌, List, [], ◌∷◌, ◌++◌, map, take, Option, Some, None, Result, Ok, Err, IfOk, OnErr, refl, sym, ap, ◌∙◌, subst, Vec, Global, arith}
-use Rattle.std.proofs.lemmas.List.{append_assoc}
+use Rattle.std.proofs.Common.{ℕ, suc, ◌+◌, ◌<◌, ◌≡◌, ◌⊎◌, inl, inr, ◌≤◌, get_or, length, List, [], ◌∷◌, ◌++◌, map, take, Option, Some, None, Result, Ok, Err, IfOk, OnErr, refl, sym, ap, ◌∙◌, subst, Vec, Global, arith, Bool, false, option_map}
+use Rattle.std.proofs.Math.Seq.{take-suc}
+use Rattle.std.specs.Prelude.{OnOk, is_err}
 use Rattle.inf_reader.specs.Meaning.{inf}
 use Rattle.inf_reader.specs.declared.parts.Inf.{Inf}
 use Rattle.live_io.specs.Turns.{Past}
 use Rattle.pnp_io.specs.Outside.{Holds, Rose}
 use Rattle.pnp_labels.specs.Texts.{Text}
 use Rattle.pnp_model.specs.Records.{Settings}
-use Rattle.live_model.specs.Fronts.{HasBegun, HasLived}
+use Rattle.script_reader.specs.Script.{Trace}
+use Rattle.free_run.specs.FreeRuns.{Free, settings}
+use Rattle.live_model.specs.Fronts.{GreetsFront, HasBegun, HasLived}
 use Rattle.live_model.specs.Lives.{Lives}
-use Rattle.live_model.specs.Outputs.{Acts, Stand, Told}
+use Rattle.live_model.specs.Outputs.{Acts, Greets, Stand, Told, beginning, untalked}
 use Rattle.live_run.specs.Runs.{how}
 use Rattle.live_run.specs.declared.stop.DriveError.{DriveError}
 use Rattle.live_run.specs.declared.stop.Ended.{Ended}
 use Rattle.drive_cli.specs.Files.{AreRead, HoldAll, texts}
-use Rattle.drive_cli.specs.Runs.{FaultSays, HasClient, Outcome, Runs, run_status}
+use Rattle.drive_cli.specs.Runs.{Answered, FaultSays, HasClient, IsNamed, Outcome, Runs, ended_status, error_status, run_status}
 use Rattle.drive_cli.specs.declared.fault.DriveFault.{DriveFault}
 use Rattle.drive_cli.specs.declared.status.Status.{Status}
 
@@ -68,3 +71,56 @@ are_more contents names infs name bytes i h here is = record {
 
 pub texts_more : (names : List (Vec ℕ Global)) (name : Vec ℕ Global) → texts (names ++ name ∷ []) ≡ texts names ++ name.items ∷ []
 texts_more names name = map_on (λ (v : Vec ℕ Global). v.items) names name
+
+-- the names up to the next one
+pub names_next : (names : List (Vec ℕ Global)) (at : ℕ) (name : Vec ℕ Global) → name ≡ get_or names at name → at < length names
+    → texts (take at names) ++ name.items ∷ [] ≡ texts (take (at + 1) names)
+names_next names at name is inside =
+    ap (λ (v : Vec ℕ Global). texts (take at names) ++ v.items ∷ []) is ∙ sym (texts_more (take at names) (get_or names at name)) ∙ ap texts (sym (take-suc names at name inside))
+    ∙ ap (λ (k : ℕ). texts (take k names)) (suc_is at)
+  where
+    suc_is : (k : ℕ) → suc k ≡ k + 1
+    suc_is k = omega arith
+
+pub one_more : {A : Type 0} (xs : List A) (x : A) → length (xs ++ x ∷ []) ≡ length xs + 1
+one_more [] x = refl
+one_more (y ∷ xs) x = let rest = one_more xs x in omega (arith, rest)
+
+pub no_less : (a b c : ℕ) → a ≤ b → b ≤ c → a ≤ c
+no_less a b c low high = omega (arith, low, high)
+
+-- the machine ran, within a budget that is the one of the words
+pub ran_of : (contents : Option (Text → Option Text)) (script : Text) (infs : List Text) (lives : Lives) (own budget : ℕ) (t : Told) (machine : Free) (rest : Trace) (status : Status) (past : Option Past) (taken : Option Text)
+    → IsNamed contents script infs own machine rest → own ≡ budget → Runs status lives (settings machine) (beginning machine.state t rest) past taken
+    → Outcome contents script infs lives budget t past taken status
+ran_of contents script infs lives own budget t machine rest status past taken named is runs =
+    Outcome.ran status machine rest (subst (λ (b : ℕ). IsNamed contents script infs b machine rest) is named) runs
+
+-- what was opened has not failed
+pub on_ok : {A E P : Type 0} (r : Result A E) (b : Bool) → OnOk r P → b ≡ is_err r → b ≡ false → P
+on_ok (Ok x) b h is not = h
+on_ok (Err e) b h is not = absurd (let bad = sym is ∙ not in cc)
+
+-- before the answers were opened, and behind it
+pub first_told : (past past' : Option Past) (taken taken' held answers : Option Text) → past' ≡ past → taken' ≡ taken → answers ≡ held → untalked past' taken' answers ≡ untalked past taken held
+first_told past past' taken taken' held answers a b c = ap (λ (p : Option Past). untalked p taken' answers) a ∙ ap (λ (k : Option Text). untalked past k answers) b ∙ ap (untalked past taken) c
+
+-- what is answered behind the opening of the answers
+
+pub began_of : (contents : Option (Text → Option Text)) (script : Text) (infs : List Text) (lives : Lives) (budget : ℕ) (first t0 t : Told) (o : Option Ended) (past : Option Past) (taken : Option Text) (status : Status)
+    → t0 ≡ first → Greets t0 (option_map how o) t → o ≡ None → Outcome contents script infs lives budget t past taken status → Answered contents script infs lives budget first past taken status
+began_of contents script infs lives budget first t0 t o past taken status is greets none outcome =
+    Answered.began status t (subst (λ (x : Told). Greets x None t) is (subst (λ (k : Option Ended). Greets t0 (option_map how k) t) none greets)) outcome
+
+pub badly_of : (contents : Option (Text → Option Text)) (script : Text) (infs : List Text) (lives : Lives) (budget : ℕ) (first t0 : Told) (o : Option Ended) (ended : Ended) (past : Option Past) (taken answers : Option Text)
+    (status : Status) → t0 ≡ first → Greets t0 (option_map how o) (untalked past taken answers) → o ≡ Some ended → status ≡ ended_status ended → Answered contents script infs lives budget first past taken status
+badly_of contents script infs lives budget first t0 o ended past taken answers status is greets some same =
+    subst (λ (s : Status). Answered contents script infs lives budget first past taken s) (sym same)
+    (Answered.greeted_badly ended answers
+    (subst (λ (x : Told). Greets x (Some (how ended)) (untalked past taken answers)) is (subst (λ (k : Option Ended). Greets t0 (option_map how k) (untalked past taken answers)) some greets)))
+
+pub failed_of : (contents : Option (Text → Option Text)) (script : Text) (infs : List Text) (lives : Lives) (budget : ℕ) (first t0 : Told) (error : DriveError) (past : Option Past) (taken : Option Text) (status : Status)
+    → t0 ≡ first → GreetsFront t0 past taken → status ≡ error_status error → Answered contents script infs lives budget first past taken status
+failed_of contents script infs lives budget first t0 error past taken status is front same =
+    subst (λ (s : Status). Answered contents script infs lives budget first past taken s) (sym same)
+    (Answered.greeting_failed error (subst (λ (x : Told). GreetsFront x past taken) is front))

@@ -215,7 +215,15 @@ fn answer<F: Files, P: Peer>(alloc: Global, words: &Words, files: &mut F, peer: 
     if inf_names.len() > MOST_INFS {
         return Status::BadWords;
     }
-    answer_named(alloc, answers_name, script_name, inf_names, words, files, peer)
+    answer_named(
+        alloc,
+        answers_name,
+        script_name,
+        inf_names,
+        words,
+        files,
+        peer,
+    )
 }
 
 /// Runs what the words name, which are the program's name, the answers, a script and up to 64 INFs, and the names of the drivers that are

@@ -2,7 +2,7 @@ ghost use Rattle.std.specs.Prelude.{◌≡◌, ◌<◌, ◌≤◌, IfOk, IfSome,
 ghost use Rattle.script_reader.specs.Script.{trace};
 ghost use Rattle.live_laws.specs.Scripts.{HasNoClients};
 ghost use Rattle.drive_cli.specs.Runs.{GivesNext, IfClient, event_in};
-ghost use Rattle.drive_cli.specs.declared.fault.DriveFault.TheVariants.{Client};
+ghost use Rattle.drive_cli.specs.declared.fault.DriveFault.TheVariants.{BadWords, Client, ReadFault};
 
 use crate::fault::DriveFault;
 use pnp_labels::Event;
@@ -57,6 +57,8 @@ pub(crate) fn refuse_clients(alloc: Global, script: &[u8]) -> Result<(), DriveFa
     requires { length script.now ≤ 16777216 }
     ensures none { OnOk result (HasNoClients (trace true 0 script.now)) }
     ensures client { IsErrOf result Client → HasNoClients (trace true 0 script.now) → ⊥ }
+    ensures words { IsErrOf result BadWords → ⊥ }
+    ensures no_read { IsErrOf result ReadFault → ⊥ }
 {
     let mut reader = reader_of(alloc, script)?;
     'events: while let Some(event) = next_of(&mut reader)? {
