@@ -26,6 +26,15 @@ module _ {T : Type 0} where
       by_test true e below = more x xs k (stands_first xs k e)
       by_test false e below = more x xs k (below e)
 
+  -- a place after which another comes
+  pub stands_before : (xs : List (ℕ × T)) (at k : ℕ) → after_of at xs ≡ Some k → Contains (places xs) at
+  stands_before [] at k e = absurd (grind (arith, e))
+  stands_before (x ∷ xs) at k e = by_test (eqb x.0 at) refl e (stands_before xs at k)
+    where
+      by_test : (b : Bool) → eqb x.0 at ≡ b → cond b (first_of xs) (after_of at xs) ≡ Some k → (after_of at xs ≡ Some k → Contains (places xs) at) → Contains (places (x ∷ xs)) at
+      by_test true h e below = (zero, omega arith, grind (arith, h))
+      by_test false h e below = more x xs at (below e)
+
   -- what stood stands
   stands_still : (at : ℕ) (v : ℕ × T) (xs : List (ℕ × T)) (k : ℕ) → Contains (places xs) k → Contains (places (inserted_behind at v xs)) k
   stands_still at v [] k is = is

@@ -1,5 +1,5 @@
 -- What clashes with a resource, among pairs of which a span is known.
-use Rattle.std.proofs.Common.{◌≡◌, ℕ, Bool, true, false, ◌+◌, ◌<◌, ◌≤◌, ◌||◌, ◌&&◌, inl, inr, List, [], ◌∷◌, ◌++◌, take, drop, get_or, length, refl, ◌∙◌, ap, subst, arith}
+use Rattle.std.proofs.Common.{◌≡◌, Bool, true, false, ◌≤◌, ◌||◌, ◌&&◌, inl, inr, List, [], ◌∷◌, ◌++◌, refl, ◌∙◌, ap, subst, arith}
 use Rattle.std.specs.Prelude.{nat_le, nat_lt, not}
 use Rattle.std.specs.List.{list_any}
 use Rattle.std.proofs.lemmas.Bool.{or_cases, ltb-true, false_from_ne_true}
@@ -8,8 +8,6 @@ use Rattle.resource_reqs.specs.Resources.{Res, clashes, same_kind}
 use Rattle.range_arbiter.specs.Pairs.{Pair, res_list}
 use Rattle.range_arbiter.specs.Orders.{In}
 use Rattle.range_arbiter.specs.Spans.{Blocks, Covers}
-use Rattle.range_arbiter.specs.Blocks.{pairs_in}
-use Rattle.range_arbiter.proofs.Blocking.{pairs_in_item, pairs_in_next}
 use Rattle.range_arbiter.specs.declared.span.Span.{Span}
 
 parted : (a b c : Bool) → ((a && b) && c) ≡ true → (b ≡ true) × (c ≡ true)
@@ -59,20 +57,20 @@ any_in r [] x i h = absurd i
 any_in r (q ∷ qs) x (inl e) h = ap (λ b. b || list_any (clashes r) (res_list qs)) (subst (λ (z : Pair). clashes r z.1 ≡ true) e h)
 any_in r (q ∷ qs) x (inr i) h = ap (λ b. clashes r q.1 || b) (any_in r qs x i h) ∙ or_true (clashes r q.1)
 
--- blocks of which one clashes, and blocks of which none does so far
-pub any_block : (r : Res) (bs : List (List Pair)) (i : ℕ) (b : List Pair) → i < length bs → b ≡ get_or bs i b → list_any (clashes r) (res_list b) ≡ true
-    → list_any (clashes r) (res_list (pairs_in bs)) ≡ true
-any_block r bs i b within is h =
-    let front = pairs_in (take i bs) in
-    let back = pairs_in (drop (i + 1) bs) in
+-- parts of which one clashes, and parts of which none does so far
+pub any_part : (r : Res) (all front xs back : List Pair) → all ≡ front ++ (xs ++ back) → list_any (clashes r) (res_list xs) ≡ true → list_any (clashes r) (res_list all) ≡ true
+any_part r all front xs back is h =
     let any : List Pair → Bool = λ l. list_any (clashes r) (res_list l) in
-    ap any (pairs_in_item bs i b within is) ∙ any_append r front (b ++ back) ∙ ap (λ x. any front || x) (any_append r b back) ∙ or_middle (any front) (any b) (any back) h
+    ap any is ∙ any_append r front (xs ++ back) ∙ ap (λ x. any front || x) (any_append r xs back) ∙ or_middle (any front) (any xs) (any back) h
 
-pub none_more : (r : Res) (bs : List (List Pair)) (i : ℕ) (b : List Pair) → i < length bs → b ≡ get_or bs i b → list_any (clashes r) (res_list b) ≡ false
-    → list_any (clashes r) (res_list (pairs_in (take i bs))) ≡ false → list_any (clashes r) (res_list (pairs_in (take (i + 1) bs))) ≡ false
-none_more r bs i b within is h none =
+pub none_more : (r : Res) (all front xs : List Pair) → all ≡ front ++ xs → list_any (clashes r) (res_list xs) ≡ false
+    → list_any (clashes r) (res_list front) ≡ false → list_any (clashes r) (res_list all) ≡ false
+none_more r all front xs is h none =
     let any : List Pair → Bool = λ l. list_any (clashes r) (res_list l) in
-    ap any (pairs_in_next bs i b within is) ∙ any_append r (pairs_in (take i bs)) b ∙ ap (λ x. x || any b) none ∙ h
+    ap any is ∙ any_append r front xs ∙ ap (λ x. x || any xs) none ∙ h
+
+pub none_next : (r : Res) (p : Pair) → clashes r p.1 ≡ false → list_any (clashes r) (res_list (p ∷ [])) ≡ false
+none_next r p h = ap (λ b. b || false) h
 
 -- where a span does not meet the resource, no pair does
 pub apart_any : (r : Res) (pairs : List Pair) (s : Span) → Covers r.shared pairs s → (nat_lt s.reach s.lo || (nat_lt s.reach r.lo || nat_lt r.hi s.lo)) ≡ true

@@ -1,6 +1,5 @@
 -- What is known of pairs, with one more, in another order and by a pass over them.
-use Rattle.std.proofs.Common.{◌≡◌, ℕ, Bool, IsTrue, true, false, inl, inr, List, [], ◌∷◌, ◌++◌, refl, sym, subst, None, Some, Option, take, drop, insert, ◌+◌, ◌<◌, length, get_or}
-use Rattle.std.proofs.lemmas.List.{take-append-drop}
+use Rattle.std.proofs.Common.{◌≡◌, Bool, IsTrue, true, false, inl, inr, List, [], ◌∷◌, ◌++◌, refl, sym, subst, None, Some, Option}
 use Rattle.std.proofs.lemmas.Bool.{both_ways, cases_Bool}
 use Rattle.range_arbiter.specs.Pairs.{Pair, pairs_with, is_before}
 use Rattle.range_arbiter.specs.Orders.{In}
@@ -10,7 +9,6 @@ use Rattle.range_arbiter.specs.declared.span.Span.{Span}
 use Rattle.range_arbiter.specs.declared.known.Known.{Known}
 use Rattle.range_arbiter.proofs.PairLists.{with_behind, with_here}
 use Rattle.range_arbiter.proofs.InOrder.{in_append, in_left, in_right, in_with, in_keeps}
-use Rattle.range_arbiter.proofs.Blocking.{take_item}
 use Rattle.range_arbiter.proofs.Spanning.{covers_any}
 
 -- a span of pairs is one of the same pairs in another order
@@ -71,40 +69,21 @@ unshared_none xs p k none own h = record {
   ];
 }
 
+-- of two lists none of whose pairs shares
+pub knows_both_none : (xs ys : List Pair) (a b : Known) → a.unshared ≡ None → b.unshared ≡ None → Knows xs a → Knows ys b → KnowsUnshared (xs ++ ys) None
+knows_both_none xs ys a b none_a none_b one other = record {
+  some = tt;
+  none = λ q i shares. elim (in_append q xs ys i) [
+    | inl j ↦ (subst (KnowsUnshared xs) none_a one.unshared).none q j shares
+    | inr j ↦ (subst (KnowsUnshared ys) none_b other.unshared).none q j shares
+  ];
+}
+
 pub known_span_none : (xs : List Pair) (k : Known) (shared : Bool) → k.unshared ≡ None → Knows xs k → Covers shared xs k.all
 known_span_none xs k shared none h = covers_any shared xs k.all (subst (KnowsUnshared xs) none h.unshared).none h.all
 
 pub known_span_some : (xs : List Pair) (k : Known) (s : Span) → k.unshared ≡ Some s → Knows xs k → Covers true xs s
 known_span_some xs k s some h = (subst (KnowsUnshared xs) some h.unshared).some
-
--- a pair put in at a place
-pub in_inserted : (q : Pair) (xs : List Pair) (at : ℕ) (p : Pair) → In q (xs ++ p ∷ []) → In q (insert xs at p)
-in_inserted q xs at p i = elim (in_append q xs (p ∷ []) i) [
-  | inl j ↦ elim (in_append q (take at xs) (drop at xs) (subst (In q) (sym (take-append-drop at xs)) j)) [
-    | inl k ↦ in_left q (take at xs) (p ∷ drop at xs) k
-    | inr k ↦ in_right q (take at xs) (p ∷ drop at xs) (inr k)
-  ]
-  | inr (inl e) ↦ in_right q (take at xs) (p ∷ drop at xs) (inl e)
-  | inr (inr n) ↦ absurd n
-]
-
-pub inserted_in : (q : Pair) (xs : List Pair) (at : ℕ) (p : Pair) → In q (insert xs at p) → In q (xs ++ p ∷ [])
-inserted_in q xs at p i = elim (in_append q (take at xs) (p ∷ drop at xs) i) [
-  | inl k ↦ in_left q xs (p ∷ []) (subst (In q) (take-append-drop at xs) (in_left q (take at xs) (drop at xs) k))
-  | inr (inl e) ↦ in_right q xs (p ∷ []) (inl e)
-  | inr (inr k) ↦ in_left q xs (p ∷ []) (subst (In q) (take-append-drop at xs) (in_right q (take at xs) (drop at xs) k))
-]
-
-pub knows_inserted : (xs : List Pair) (at : ℕ) (p : Pair) (k : Known) → Knows (xs ++ p ∷ []) k → Knows (insert xs at p) k
-knows_inserted xs at p k h = knows_same (xs ++ p ∷ []) (insert xs at p) k (λ q i. in_inserted q xs at p i) (λ q i. inserted_in q xs at p i) h
-
--- none of the pairs so far shares, nor does the next
-pub none_next : (xs : List Pair) (i : ℕ) (x : Pair) → i < length xs → x ≡ get_or xs i x → x.1.shared ≡ false → NoneShares (take i xs) → NoneShares (take (i + 1) xs)
-none_next xs i x within is own none = λ p k shares. elim (in_append p (take i xs) (x ∷ []) (subst (In p) (take_item xs i x within is) k)) [
-  | inl m ↦ none p m shares
-  | inr (inl e) ↦ both_ways x.1.shared own (subst (λ (z : Pair). IsTrue z.1.shared) e shares)
-  | inr (inr n) ↦ n
-]
 
 -- a pair put in at its place
 in_put : (xs : List Pair) (p : Pair) → In p (pairs_with xs p)

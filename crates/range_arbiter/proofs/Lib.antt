@@ -3,7 +3,16 @@ pub mod PairLists
 pub mod InOrder
 pub mod Aligned
 pub mod Spanning
-pub mod Blocking
+pub mod Listing
+pub mod Noding
+pub mod Walking
+pub mod Running
+pub mod Lows
+pub mod Marking
+pub mod Spotting
+pub mod Placing
+pub mod Parting
+pub mod Noting
 pub mod Knowing
 pub mod Sweeping
 pub mod Clashing

@@ -3,7 +3,7 @@ ghost use Rattle.range_arbiter.specs.Pairs.{Pair};
 ghost use Rattle.range_arbiter.specs.Spans.{Covers, NoneShares};
 ghost use Rattle.range_arbiter.specs.Known.{Knows, KnowsUnshared};
 
-use crate::span::{Span, joined, with_one};
+use crate::span::{Span, joined};
 use resource_reqs::{Owner, Res};
 
 /// What is known at once of some pairs, of all and of those that do not share.
@@ -52,6 +52,18 @@ impl Known {
         }
     }
 
+    /// What is known of some pairs and others.
+    pub fn and_those(self, others: Known) -> Known
+        ensures { (xs ys : List Pair) → Knows xs self → Knows ys others → Knows (xs ++ ys) result }
+    {
+        let all = joined(self.all, others.all);
+        let unshared = match (self.unshared, others.unshared) {
+            (None, None) => None,
+            _ => Some(joined(self.span(true), others.span(true))),
+        };
+        Known { all, unshared }
+    }
+
     /// What is known of all, or of those that do not share.
     #[inline(always)]
     pub fn span(&self, shared: bool) -> Span
@@ -71,51 +83,4 @@ impl Known {
     pub fn is_cut_by(&self, res: &Res) -> bool {
         self.all.gap != 0 && !self.all.misses(res.lo, res.hi)
     }
-}
-
-/// What is known at once of all of some pairs, by one pass over them.
-fn all_of(pairs: &[(Owner, Res)]) -> Span
-    ensures { Covers false pairs.now result }
-{
-    let mut span = Span::nothing();
-    for pair in pairs {
-        span = with_one(span, pair);
-    }
-    span
-}
-
-/// What is known at once of those that do not share, by one pass over them.
-fn unshared_of(pairs: &[(Owner, Res)]) -> Span
-    ensures { Covers true pairs.now result }
-{
-    let mut span = Span::nothing();
-    for pair in pairs {
-        span = joined(span, Span::of(pair, true));
-    }
-    span
-}
-
-/// Whether one of the pairs shares.
-fn one_shares(pairs: &[(Owner, Res)]) -> bool
-    ensures { result ≡ false → NoneShares pairs.now }
-{
-    for pair in pairs {
-        if pair.1.shared {
-            return true;
-        }
-    }
-    false
-}
-
-/// What is known of pairs. Cost: the number of pairs.
-pub fn known_of(pairs: &[(Owner, Res)]) -> Known
-    ensures { Knows pairs.now result }
-{
-    let all = all_of(pairs);
-    let unshared = if one_shares(pairs) {
-        Some(unshared_of(pairs))
-    } else {
-        None
-    };
-    Known { all, unshared }
 }

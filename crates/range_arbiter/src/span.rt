@@ -96,24 +96,3 @@ pub fn joined(one: Span, other: Span) -> Span
         gap: one.gap.max(other.gap).max(between(one, other)),
     }
 }
-
-/// Of the pairs of a span and one more that counts.
-#[inline(always)]
-pub fn with_one(span: Span, pair: &(Owner, Res)) -> Span
-    ensures { (shared : Bool) (xs : List Pair) → Blocks shared pair.now.1 → Covers shared xs span → Covers shared (xs ++ pair.now ∷ []) result }
-{
-    let res = &pair.1;
-    let one = Span {
-        lo: res.lo,
-        reach: res.hi,
-        gap: 0,
-    };
-    if span.is_nothing() {
-        return one;
-    }
-    Span {
-        lo: span.lo.min(one.lo),
-        reach: span.reach.max(one.reach),
-        gap: span.gap.max(between(span, one)),
-    }
-}

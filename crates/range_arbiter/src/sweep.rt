@@ -1,17 +1,21 @@
-ghost use Rattle.std.specs.Prelude.{◌≡◌, ◌↔◌, ◌≤◌, ◌<◌, ◌+◌, ◌-◌, ◌^◌, List, [], ◌∷◌, ℕ, IsTrue, IfOk, IfErr, IfSome};
+ghost use Rattle.std.specs.Prelude.{◌≡◌, ◌↔◌, ◌≤◌, ◌<◌, ◌+◌, ◌-◌, ◌^◌, List, [], ◌∷◌, ℕ, IsTrue, IfOk, IfErr, IfSome, length};
 ghost use Rattle.resource_reqs.specs.Resources.{Clash, res_at};
 ghost use Rattle.range_arbiter.specs.Pairs.{Pair};
 ghost use Rattle.range_arbiter.specs.Orders.{IsOrdered, AreOfKind};
 ghost use Rattle.range_arbiter.specs.Spans.{Covers};
 ghost use Rattle.range_arbiter.specs.Known.{Knows};
 ghost use Rattle.range_arbiter.specs.Sweeps.{IsStart, Passed, Cleared, EndedWith};
-ghost use Rattle.range_arbiter.specs.Blocks.{pairs_in};
+ghost use Rattle.node_pool.specs.Chains.{tail_of, Stands};
+ghost use Rattle.range_arbiter.specs.Nodes.{nodes_of, pairs_of, pairs_at};
+ghost use Rattle.range_arbiter.specs.Runs.{IsMarked};
 ghost use Rattle.range_arbiter.specs.declared.sweep.Ended.TheVariants.{Nowhere};
 
-use crate::block::Block;
 use crate::known::Known;
+use crate::mark::Mark;
+use crate::run::step;
 use crate::span::Span;
 use crate::starts::start_from;
+use node_pool::{Place, Pool};
 use resource_reqs::{Owner, Res, Want};
 
 /// How a sweep ends before it is past all pairs.
@@ -67,20 +71,30 @@ fn past_pair(pair: &(Owner, Res), want: &Want, place: u64) -> Result<u64, Ended>
     Ok(place)
 }
 
-/// Moves a start past pairs, up to the first pair that begins beyond it.
-fn past_pairs(pairs: &[(Owner, Res)], want: &Want, place: u64) -> Result<u64, Ended>
-    requires in_order { IsOrdered pairs.now }
-    requires kinds { AreOfKind want.now.kind pairs.now }
+/// Moves a start past so many pairs from a place on, up to the first pair that begins beyond it.
+fn past_pairs(
+    pool: &Pool<(Owner, Res)>,
+    first: Place,
+    count: u32,
+    want: &Want,
+    place: u64,
+) -> Result<u64, Ended>
+    requires stands { Stands pool.now 0 first.node }
+    requires long { count ≤ length (tail_of first.node (nodes_of pool.now)) }
+    requires in_order { IsOrdered (pairs_at (nodes_of pool.now) first.node count) }
+    requires kinds { AreOfKind want.now.kind (pairs_at (nodes_of pool.now) first.node count) }
     requires start { IsStart want.now place }
-    ensures on { IfOk result (λ s. Passed pairs.now want.now place s) }
-    ensures ended { IfErr result (EndedWith pairs.now want.now place) }
+    ensures on { IfOk result (λ s. Passed (pairs_at (nodes_of pool.now) first.node count) want.now place s) }
+    ensures ended { IfErr result (EndedWith (pairs_at (nodes_of pool.now) first.node count) want.now place) }
 {
     let mut start = place;
-    for pair in pairs {
-        match past_pair(pair, want, start) {
+    let mut at = first;
+    'places: for _turn in 0..count {
+        match past_pair(pool.get(0, at), want, start) {
             Ok(next) => start = next,
             Err(ended) => return Err(ended),
         }
+        at = step(pool, at);
     }
     Ok(start)
 }
@@ -112,32 +126,55 @@ fn past_span(span: Span, want: &Want, from: u64) -> Option<Result<u64, Ended>>
     None
 }
 
-/// Moves a bound past the pairs of a block, at once where that can be. An end is told as of a start.
-fn past_block(block: &Block, want: &Want, from: u64) -> Result<u64, Ended>
-    requires in_order { IsOrdered block.now }
-    requires kinds { AreOfKind want.now.kind block.now }
-    ensures on { IfOk result (λ s. Cleared block.now want.now from s) }
-    ensures ended { IfErr result (EndedWith block.now want.now from) }
+/// The same, where perhaps something is known of the pairs.
+#[inline(always)]
+fn past_known(known: &Option<Known>, want: &Want, from: u64) -> Option<Result<u64, Ended>>
+    ensures on { (xs : List Pair) → AreOfKind want.now.kind xs → IfSome known.now (λ k. Knows xs k) → IfSome result (λ r. IfOk r (λ s. Cleared xs want.now from s)) }
+    ensures ended { (xs : List Pair) → AreOfKind want.now.kind xs → IfSome known.now (λ k. Knows xs k) → IfSome result (λ r. IfErr r (EndedWith xs want.now from)) }
 {
-    if let Some(passed) = past_span(block.span(want.shared), want, from) {
+    match known {
+        Some(known) => past_span(known.span(want.shared), want, from),
+        None => None,
+    }
+}
+
+/// Moves a bound past the pairs of a run, at once where that can be. An end is told as of a start.
+fn past_run(pool: &Pool<(Owner, Res)>, mark: &Mark, want: &Want, from: u64) -> Result<u64, Ended>
+    requires stands { Stands pool.now 0 mark.now.first.node }
+    requires long { mark.now.count ≤ length (tail_of mark.now.first.node (nodes_of pool.now)) }
+    requires known { IfSome mark.now.known (λ k. Knows (pairs_at (nodes_of pool.now) mark.now.first.node mark.now.count) k) }
+    requires in_order { IsOrdered (pairs_at (nodes_of pool.now) mark.now.first.node mark.now.count) }
+    requires kinds { AreOfKind want.now.kind (pairs_at (nodes_of pool.now) mark.now.first.node mark.now.count) }
+    ensures on { IfOk result (λ s. Cleared (pairs_at (nodes_of pool.now) mark.now.first.node mark.now.count) want.now from s) }
+    ensures ended { IfErr result (EndedWith (pairs_at (nodes_of pool.now) mark.now.first.node mark.now.count) want.now from) }
+{
+    if let Some(passed) = past_known(&mark.known, want, from) {
         return passed;
     }
     match start_from(want, from) {
-        Some(start) => past_pairs(block.pairs(), want, start),
+        Some(start) => past_pairs(pool, mark.first, mark.count, want, start),
         None => Err(Ended::Nowhere),
     }
 }
 
-/// The least start from a number on that is open beside the pairs of the blocks.
-pub fn sweep(blocks: &[Block], want: &Want, from: u64) -> Result<u64, Ended>
-    requires in_order { IsOrdered (pairs_in blocks.now) }
-    requires kinds { AreOfKind want.now.kind (pairs_in blocks.now) }
-    ensures on { IfOk result (λ s. Cleared (pairs_in blocks.now) want.now from s) }
-    ensures ended { IfErr result (EndedWith (pairs_in blocks.now) want.now from) }
+/// The least start from a number on that is open beside the pairs.
+pub fn sweep(
+    pool: &Pool<(Owner, Res)>,
+    marks: &[Mark],
+    want: &Want,
+    from: u64,
+) -> Result<u64, Ended>
+    requires one { length pool.now.chains ≡ 1 }
+    requires marked { IsMarked (nodes_of pool.now) marks.now }
+    requires in_order { IsOrdered (pairs_of (nodes_of pool.now)) }
+    requires kinds { AreOfKind want.now.kind (pairs_of (nodes_of pool.now)) }
+    ensures on { IfOk result (λ s. Cleared (pairs_of (nodes_of pool.now)) want.now from s) }
+    ensures ended { IfErr result (EndedWith (pairs_of (nodes_of pool.now)) want.now from) }
 {
+    pool.places_differ(0);
     let mut bound = from;
-    for block in blocks {
-        match past_block(block, want, bound) {
+    for mark in marks {
+        match past_run(pool, mark, want, bound) {
             Ok(next) => bound = next,
             Err(ended) => return Err(ended),
         }
@@ -148,20 +185,21 @@ pub fn sweep(blocks: &[Block], want: &Want, from: u64) -> Result<u64, Ended>
 /// The same, where perhaps something is known of all pairs at once.
 pub fn sweep_known(
     known: &Option<Known>,
-    blocks: &[Block],
+    pool: &Pool<(Owner, Res)>,
+    marks: &[Mark],
     want: &Want,
     from: u64,
 ) -> Result<u64, Ended>
-    requires known { IfSome known.now (λ k. Knows (pairs_in blocks.now) k) }
-    requires in_order { IsOrdered (pairs_in blocks.now) }
-    requires kinds { AreOfKind want.now.kind (pairs_in blocks.now) }
-    ensures on { IfOk result (λ s. Cleared (pairs_in blocks.now) want.now from s) }
-    ensures ended { IfErr result (EndedWith (pairs_in blocks.now) want.now from) }
+    requires known { IfSome known.now (λ k. Knows (pairs_of (nodes_of pool.now)) k) }
+    requires one { length pool.now.chains ≡ 1 }
+    requires marked { IsMarked (nodes_of pool.now) marks.now }
+    requires in_order { IsOrdered (pairs_of (nodes_of pool.now)) }
+    requires kinds { AreOfKind want.now.kind (pairs_of (nodes_of pool.now)) }
+    ensures on { IfOk result (λ s. Cleared (pairs_of (nodes_of pool.now)) want.now from s) }
+    ensures ended { IfErr result (EndedWith (pairs_of (nodes_of pool.now)) want.now from) }
 {
-    if let Some(known) = known {
-        if let Some(passed) = past_span(known.span(want.shared), want, from) {
-            return passed;
-        }
+    if let Some(passed) = past_known(known, want, from) {
+        return passed;
     }
-    sweep(blocks, want, from)
+    sweep(pool, marks, want, from)
 }

@@ -1,6 +1,12 @@
-use Rattle.std.proofs.Common.{take}
+use Rattle.std.proofs.Common.{◌≡◌, ◌<◌, take, drop}
+use Rattle.node_pool.specs.Chains.{tail_of, Stands}
+use Rattle.range_arbiter.specs.Nodes.{nodes_of, pairs_at}
 use Rattle.range_arbiter.specs.Sweeps.{Passed}
 use Rattle.range_arbiter.proofs.sweep.past_pairs.Given as goal
 
-abbrev pub invariant-loop-pair : goal.invariant-loop-pair
-invariant-loop-pair l = Passed (take l.pair-index l.pairs) l.want l.place l.start
+abbrev pub invariant-places : goal.invariant-places
+invariant-places l = record {
+  stands : Stands l.pool 0 l.at.node;
+  here : l._turn < l.fn.count → tail_of l.at.node (nodes_of l.pool) ≡ drop l._turn (tail_of l.fn.first.node (nodes_of l.pool));
+  passed : Passed (take l._turn (pairs_at (nodes_of l.pool) l.fn.first.node l.fn.count)) l.want l.fn.place l.start;
+}
