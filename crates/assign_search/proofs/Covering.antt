@@ -1,5 +1,7 @@
 -- Ranges that reach over places: what hits a place hits one of them.
-use Rattle.std.proofs.Common.{◌≡◌, ℕ, zero, suc, ◌<◌, ◌≤◌, ◌⊎◌, inl, inr, List, [], ◌∷◌, ◌++◌, take, drop, length, slice_get, get_or, set, IsTrue, Some, refl, sym, ◌∙◌, ap, subst, arith}
+use Rattle.std.proofs.Common.{◌≡◌, ℕ, zero, suc, ◌+◌, ◌*◌, ◌/◌, ◌%◌, ◌<◌, ◌≤◌, ◌⊎◌, inl, inr, List, [], ◌∷◌, ◌++◌, take, drop, length, slice_get, get_or, set, IsTrue, Some, refl, sym, ◌∙◌, ap, subst, arith, div-add-mod'}
+use native.Mathlib.Decide.{dec_lt}
+use Rattle.std.proofs.lemmas.Nat.{mod_below}
 use Rattle.std.proofs.lemmas.Option.{slice_get_within, slice_get-get_or, get_or_from_slice_get}
 use Rattle.std.proofs.lemmas.List.{get_or-set_same, get_or-set_other, length-set}
 use Rattle.std.proofs.lemmas.List.Elements.{Contains-append_left, Contains-push}
@@ -64,20 +66,73 @@ get_pushed [] (suc at) = refl
 get_pushed (x ∷ xs) zero = refl
 get_pushed (x ∷ xs) (suc at) = get_pushed xs at
 
-pub covered_more : (over : List Res) (watched : List (List Res)) → AreCovered over watched → AreCovered over (watched ++ [] ∷ [])
+pub covered_more : (over watched : List (List Res)) → AreCovered over watched → AreCovered over (watched ++ [] ∷ [])
 covered_more over watched covers at x hit = covers at x (subst (λ l. IsHit l x) (get_pushed watched at) hit)
 
-pub covered_none : (over : List Res) → AreCovered over []
+-- a group more, without ranges
+pub covered_room : (over watched : List (List Res)) → AreCovered over watched → AreCovered (over ++ [] ∷ []) watched
+covered_room over watched covers at x hit = subst (λ l. IsHit l x) (sym (get_pushed over (at / 64))) (covers at x hit)
+
+pub covered_none : (over : List (List Res)) → AreCovered over []
 covered_none over at x hit = absurd (none_hit x hit)
 
--- ranges that reach further
-pub covered_wider : (over wide : List Res) (watched : List (List Res)) → ((x : Res) → IsHit over x → IsHit wide x) → AreCovered over watched → AreCovered wide watched
-covered_wider over wide watched wider covers at x hit = wider x (covers at x hit)
+-- ranges of one group that reach further
+pub covered_wider : (over watched : List (List Res)) (group : ℕ) (wide : List Res) → group < length over → ((x : Res) → IsHit (get_or over group []) x → IsHit wide x)
+    → AreCovered over watched → AreCovered (set over group wide) watched
+covered_wider over watched group wide inside wider covers k x hit = elim (cases_eq (k / 64) group) [
+  | inl e ↦
+      subst (λ l. IsHit l x) (sym (ap (λ j. get_or (set over group wide) j []) e ∙ get_or-set_same over group wide [] inside))
+      (wider x (subst (λ j. IsHit (get_or over j []) x) e (covers k x hit)))
+  | inr ne ↦ subst (λ l. IsHit l x) (sym (get_or-set_other over group (k / 64) wide [] ne)) (covers k x hit)
+]
 
--- other places of a mover, which they reach over
-pub covered_set : (wide : List Res) (watched : List (List Res)) (at : ℕ) (places : List Res) → at < length watched → ((x : Res) → IsHit places x → IsHit wide x)
-    → AreCovered wide watched → AreCovered wide (set watched at places)
-covered_set wide watched at places inside new covers k x hit = elim (cases_eq k at) [
-  | inl e ↦ new x (subst (λ l. IsHit l x) (ap (λ j. get_or (set watched at places) j []) e ∙ get_or-set_same watched at places [] inside) hit)
+-- other places of a mover, which the ranges of its group reach over
+pub covered_set : (over watched : List (List Res)) (at : ℕ) (places : List Res) → at < length watched → ((x : Res) → IsHit places x → IsHit (get_or over (at / 64) []) x)
+    → AreCovered over watched → AreCovered over (set watched at places)
+covered_set over watched at places inside new covers k x hit = elim (cases_eq k at) [
+  | inl e ↦
+      subst (λ j. IsHit (get_or over (j / 64) []) x) (sym e)
+      (new x (subst (λ l. IsHit l x) (ap (λ j. get_or (set watched at places) j []) e ∙ get_or-set_same watched at places [] inside) hit))
   | inr ne ↦ covers k x (subst (λ l. IsHit l x) (get_or-set_other watched at k places [] ne) hit)
 ]
+
+-- the group of a mover is there
+pub group_inside : (at movers groups : ℕ) → at < movers → movers ≤ 64 * groups → at / 64 < groups
+group_inside at movers groups inside few = let whole : at / 64 * 64 + at % 64 ≡ at = div-add-mod' at 64 in omega arith
+
+-- a mover more has its group
+pub group_more : (movers groups : ℕ) → movers ≤ 64 * groups → (movers / 64 ≡ groups → ⊥) → movers + 1 ≤ 64 * groups
+group_more movers groups few other =
+    let whole : movers / 64 * 64 + movers % 64 ≡ movers = div-add-mod' movers 64 in
+    elim (dec_lt movers (64 * groups)) [
+      | yes less ↦ omega arith
+      | no full ↦ absurd (let same : movers ≡ 64 * groups = omega arith in other (ap (λ n. n / 64) same ∙ times_over groups))
+    ]
+  where
+    times_over : (n : ℕ) → 64 * n / 64 ≡ n
+    times_over n = let whole : 64 * n / 64 * 64 + 64 * n % 64 ≡ 64 * n = div-add-mod' (64 * n) 64 in let less = mod_below (64 * n) 64 (omega arith) in omega arith
+
+get_none : (at : ℕ) → get_or {A = List Res} [] at [] ≡ []
+get_none zero = refl
+get_none (suc at) = refl
+
+-- there is no mover past the last
+pub beyond : (watched : List (List Res)) (at : ℕ) (x : Res) → length watched ≤ at → IsHit (get_or watched at []) x → ⊥
+beyond [] at x past hit = none_hit x (subst (λ l. IsHit l x) (get_none at) hit)
+beyond (w ∷ watched) zero x past hit = absurd (omega arith)
+beyond (w ∷ watched) (suc at) x past hit = beyond watched at x (omega arith) hit
+
+-- those that are not hit, so far
+pub clear_group : (over watched : List (List Res)) (at k : ℕ) (x : Res) → AreCovered over watched → (IsHit (get_or over (at / 64) []) x → ⊥)
+    → at ≤ k → k < (at / 64 + 1) * 64 → IsHit (get_or watched k []) x → ⊥
+clear_group over watched at k x covers off low less hit =
+    let same : k / 64 ≡ at / 64 = same_group k low less in
+    off (subst (λ j. IsHit (get_or over j []) x) same (covers k x hit))
+  where
+    same_group : (k : ℕ) → at ≤ k → k < (at / 64 + 1) * 64 → k / 64 ≡ at / 64
+    same_group k low less =
+        let one : k / 64 * 64 + k % 64 ≡ k = div-add-mod' k 64 in
+        let other : at / 64 * 64 + at % 64 ≡ at = div-add-mod' at 64 in
+        let small = mod_below k 64 (omega arith) in
+        let small' = mod_below at 64 (omega arith) in
+        omega arith

@@ -1,15 +1,15 @@
 -- What places that are watched say of a mover: how they stay right, and what is open by them.
-use Rattle.std.proofs.Common.{◌≡◌, ◌≢◌, ℕ, zero, suc, ◌+◌, ◌-◌, ◌<◌, ◌≤◌, inl, inr, List, [], ◌∷◌, ◌++◌, drop, length, slice_get, get_or, set, Contains, Option, Some, None, refl, sym, ◌∙◌, ap, subst, arith}
+use Rattle.std.proofs.Common.{◌≡◌, ◌≢◌, ℕ, zero, suc, ◌+◌, ◌-◌, ◌<◌, ◌≤◌, inl, inr, List, [], ◌∷◌, ◌++◌, drop, length, max, slice_get, get_or, set, Contains, IfSome, Option, Some, None, refl, sym, ◌∙◌, ap, subst, arith}
 use Rattle.std.specs.List.{AllByRecursion}
 use Rattle.std.proofs.lemmas.Option.{slice_get_within, slice_get-get_or}
 use Rattle.std.proofs.lemmas.List.{get_or-set_same, get_or-set_other, length-set}
 use Rattle.std.proofs.lemmas.Bool.{cases_eq}
 use native.Mathlib.Decide.{dec_lt}
 use Rattle.std.proofs.lemmas.List.Elements.{All-contains, Contains-append_left, Contains-push}
-use Rattle.resource_reqs.specs.Resources.{Res, Clash, Free, Group, AltList, Reqs, res_at}
+use Rattle.resource_reqs.specs.Resources.{Res, Clash, Free, May, Want, Group, AltList, Reqs, res_at}
 use Rattle.trial_journal.specs.ByKind.{Lists}
 use Rattle.assign_search.specs.Walking.{HasOpen, AllOpen, HasOpenList, Adds, lists_holding}
-use Rattle.assign_search.specs.Watching.{IsPlaceOf, IsHit, LeavesFree, WatchesList, Watches, AllWatched, AddsStep, Within}
+use Rattle.assign_search.specs.Watching.{IsPlaceOf, IsHit, FirstIsFree, LeavesFree, WatchesList, Watches, AllWatched, AddsStep, Within}
 use Rattle.assign_search.proofs.Touching.{free_from}
 use Rattle.assign_search.proofs.SameHeld.{lists_res, put_adds}
 use Rattle.assign_search.proofs.Rest.{SameAll, all_no, all_yes, all_end}
@@ -67,6 +67,25 @@ leaves_more held places other res leaves x inside = elim (leaves x inside) [
   | inl old ↦ inl old
   | inr off ↦ inr (free_from places x (λ place among clash. All-contains (λ y. ¬ Clash y x) (places ++ res ∷ []) place off (Contains-append_left places (res ∷ []) place among) clash))
 ]
+
+-- a place is the one of its want at its first number
+res_is : (want : Want) (res : Res) → May want res → res ≡ res_at want res.lo
+res_is want res may = λ t. record { kind = may.0 t; lo = res.lo; hi = hi t; shared = may.1 t }
+  where
+    hi : res.hi ≡ res.lo + want.len - 1
+    hi = let ends = may.4 in omega arith
+
+pub known_is : (held : List Res) (group : Group) (want : Want) (res : Res) → slice_get group 0 ≡ Some want → May want res → Free held res → IsPlaceOf held group res
+known_is held group want res read may free =
+    let is = res_is want res may in (0, res.lo, want, read, (subst (May want) is may, subst (Free held) is free), is)
+
+-- a place clashes with nothing held
+pub place_free : (held : List Res) (group : Group) (res : Res) → IsPlaceOf held group res → Free held res
+place_free held group res (w, start, want, read, (may, free), is) = subst (Free held) (sym is) free
+
+pub first_free : (held places places' : List Res) (res : Res) → Free held res → places' ≡ places ++ res ∷ [] → FirstIsFree held places → FirstIsFree held places'
+first_free held [] places' res free is so_far = subst (FirstIsFree held) (sym is) free
+first_free held (p ∷ places) places' res free is so_far = subst (FirstIsFree held) (sym is) so_far
 
 -- the groups that have their places so far
 abbrev pub PlacesSoFar : List Res → AltList → List Res → ℕ → Type 0
@@ -232,22 +251,42 @@ holding_within l m (Some r) is = λ x inside. subst (λ k. Contains (lists_res k
 
 -- No place is hit ------------------------------------------------------------------------
 
-module _ (held : List Res) (res : Res) (ms : List Reqs) (from sure : ℕ) (old : List (List Res)) (known : sure ≤ from) (off : (at : ℕ) → IsHit (get_or old at []) res → ⊥) where
-  seen_steps : (k : ℕ) → from + k ≤ length ms → SeenTo held res ms from sure old old (from + k)
-  seen_steps zero within = let e : from ≡ from + 0 = omega arith in subst (SeenTo held res ms from sure old old) e (seen_none held res ms from sure old)
-  seen_steps (suc k) within =
-      let read : slice_get ms (from + k) ≡ Some (get_or ms (from + k) []) = slice_get-get_or ms (from + k) [] (omega arith) in
-      let e : from + k + 1 ≡ from + suc k = omega arith in
-      subst (SeenTo held res ms from sure old old) e
-      (seen_unhit held res ms from sure old old (from + k) (get_or ms (from + k) []) (omega arith) read (seen_steps k (omega arith)) (omega arith) (off (from + k)))
+-- movers whose places are not hit, from one on up to another
+pub seen_skip : (held : List Res) (res : Res) (ms : List Reqs) (from sure : ℕ) (old watched : List (List Res)) (at : ℕ) → from ≤ at → sure ≤ at
+    → (k : ℕ) → at + k ≤ length ms → ((m : ℕ) → at ≤ m → m < at + k → IsHit (get_or watched m []) res → ⊥)
+    → SeenTo held res ms from sure old watched at → SeenTo held res ms from sure old watched (at + k)
+seen_skip held res ms from sure old watched at low known zero within off so_far =
+    let e : at ≡ at + 0 = omega arith in subst (SeenTo held res ms from sure old watched) e so_far
+seen_skip held res ms from sure old watched at low known (suc k) within off so_far =
+    let read : slice_get ms (at + k) ≡ Some (get_or ms (at + k) []) = slice_get-get_or ms (at + k) [] (omega arith) in
+    let e : at + k + 1 ≡ at + suc k = omega arith in
+    let before = seen_skip held res ms from sure old watched at low known k (omega arith) (λ m above below. off m above (omega arith)) so_far in
+    subst (SeenTo held res ms from sure old watched) e
+    (seen_unhit held res ms from sure old watched (at + k) (get_or ms (at + k) []) (omega arith) read before (omega arith) (off (at + k) (omega arith) (omega arith)))
 
-  -- so all movers that were watched still are, and the later ones are as before
+-- up to the next one that is not sure
+pub seen_up_to : (held : List Res) (res : Res) (ms : List Reqs) (from sure : ℕ) (old watched : List (List Res)) (at next : ℕ) → from ≤ at → at ≤ next → next ≤ max at (length ms)
+    → (at < next → sure ≤ at) → ((m : ℕ) → at ≤ m → m < next → IsHit (get_or watched m []) res → ⊥)
+    → SeenTo held res ms from sure old watched at → SeenTo held res ms from sure old watched next
+seen_up_to held res ms from sure old watched at next low on within known off so_far = elim (dec_lt at next) [
+  | yes further ↦
+      let e : at + (next - at) ≡ next = omega arith in
+      subst (SeenTo held res ms from sure old watched) e
+      (seen_skip held res ms from sure old watched at low (known further) (next - at) (omega arith) (λ m above below. off m above (omega arith)) so_far)
+  | no here ↦ let e : at ≡ next = omega arith in subst (SeenTo held res ms from sure old watched) e so_far
+]
+
+-- where none from `sure` on is hit, all movers that were watched still are, and the later ones are as before
+module _ (held : List Res) (res : Res) (ms : List Reqs) (from sure : ℕ) (old : List (List Res)) (known : sure ≤ from) (off : (at : ℕ) → sure ≤ at → at < length ms → IsHit (get_or old at []) res → ⊥) where
   pub off_watched : (before : List Res) → Adds before res held → AllWatched before ms sure old → AllWatched held ms sure old
   off_watched before adds all at reqs from' read =
-      watched_beside before held res adds reqs (get_or old at []) (free_unhit (get_or old at []) res (off at)) (all at reqs from' read)
+      watched_beside before held res adds reqs (get_or old at []) (free_unhit (get_or old at []) res (off at from' (slice_get_within ms at reqs read))) (all at reqs from' read)
 
   pub off_live : (before : List Res) → Adds before res held → AllWatched before ms sure old → AllByRecursion (HasOpenList held) (drop from ms)
   off_live before adds all = elim (dec_lt (length ms) from) [
     | yes past ↦ (seen_all held res ms from sure old old from (omega arith) (seen_none held res ms from sure old) before adds all).0
-    | no within ↦ (seen_all held res ms from sure old old (from + (length ms - from)) (omega arith) (seen_steps (length ms - from) (omega arith)) before adds all).0
+    | no within ↦
+        (seen_all held res ms from sure old old (length ms) (omega arith)
+        (seen_up_to held res ms from sure old old from (length ms) (omega arith) (omega arith) (omega arith) (λ further. known) (λ m above below. off m (omega arith) below) (seen_none held res ms from sure old))
+        before adds all).0
   ]

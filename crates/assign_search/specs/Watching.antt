@@ -1,5 +1,5 @@
 -- What is remembered of the look ahead at later movers. No public contract cites this.
-use Rattle.std.specs.Prelude.{◌≡◌, ℕ, ◌≤◌, ◌⊎◌, List, [], slice_get, get_or, Contains, Option, Some, None}
+use Rattle.std.specs.Prelude.{◌≡◌, ℕ, ◌≤◌, ◌/◌, ◌⊎◌, List, [], slice_get, get_or, Contains, Option, Some, None, IfSome}
 use Rattle.resource_reqs.specs.Resources.{Res, Want, Clash, Free, IsOpen, Group, AltList, Reqs, res_at}
 use Rattle.assign_search.specs.Walking.{AllOpen, HasOpenList, Adds}
 
@@ -14,6 +14,10 @@ IsHit places res = (place : Res) × Contains places place × Clash place res
 -- holds nothing but what was held, and what clashes with none of these places
 abbrev pub LeavesFree : List Res → List Res → List Res → Type 0
 LeavesFree held places other = (x : Res) → Contains other x → Contains held x ⊎ Free places x
+
+-- the first of these, if there is one, clashes with nothing held
+abbrev pub FirstIsFree : List Res → List Res → Type 0
+FirstIsFree held places = IfSome (slice_get places 0) (λ res. Free held res)
 
 -- whatever comes to what is held, each group has an open place while nothing clashes with one of these
 abbrev pub WatchesList : List Res → AltList → List Res → Type 0
@@ -36,9 +40,9 @@ AddsStep before (Some res) held = Adds before res held
 abbrev pub Within : List Res → List Res → Type 0
 Within before held = (x : Res) → Contains before x → Contains held x
 
--- what hits a place of some mover hits one of these ranges
-abbrev pub AreCovered : List Res → List (List Res) → Type 0
-AreCovered over watched = (at : ℕ) (x : Res) → IsHit (get_or watched at []) x → IsHit over x
+-- what hits a place of some mover hits one of the ranges of its group of 64
+abbrev pub AreCovered : List (List Res) → List (List Res) → Type 0
+AreCovered over watched = (at : ℕ) (x : Res) → IsHit (get_or watched at []) x → IsHit (get_or over (at / 64) []) x
 
 -- the range at a place has the kind and the sharing of the resource
 abbrev pub IsRangeOf : List Res → ℕ → Res → Type 0

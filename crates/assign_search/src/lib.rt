@@ -11,6 +11,7 @@ mod place_list;
 mod places;
 mod plan;
 mod problem;
+mod ranges;
 mod search;
 mod spelled;
 mod spots;

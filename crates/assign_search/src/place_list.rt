@@ -1,4 +1,4 @@
-ghost use Rattle.std.specs.Prelude.{◌≡◌, ◌↔◌, ◌++◌, [], ◌∷◌, IsTrue, OnOk, OnErr};
+ghost use Rattle.std.specs.Prelude.{◌≡◌, ◌↔◌, ◌++◌, [], ◌∷◌, IsTrue, OnOk, OnErr, slice_get};
 ghost use Rattle.assign_search.specs.Watching.{IsHit};
 
 use resource_reqs::{Res, ResList, WantOfMemory, clash};
@@ -47,6 +47,13 @@ impl PlaceList {
             return Ok(());
         }
         self.rest.push(place)
+    }
+
+    /// The first place, none exactly where there is no place.
+    pub fn first(&self) -> Option<Res>
+        ensures { result ≡ slice_get self.now 0 }
+    {
+        self.first
     }
 
     /// Whether one of the places clashes with the resource.

@@ -1,22 +1,26 @@
-ghost use Rattle.std.specs.Prelude.{◌≡◌, ◌↔◌, ◌<◌, ◌++◌, [], ◌∷◌, ℕ, OnOk, OnErr, IfSome, IsTrue, true, false, get_or, length, slice_set};
-ghost use Rattle.resource_reqs.specs.Resources.{Res, Clash};
-ghost use Rattle.assign_search.specs.Watching.{IsHit, IsRangeOf};
+ghost use Rattle.std.specs.Prelude.{◌≡◌, ◌≤◌, ◌<◌, ◌+◌, ◌*◌, ◌++◌, List, [], ◌∷◌, ℕ, OnOk, OnErr, max, get_or, length, slice_set};
+ghost use Rattle.resource_reqs.specs.Resources.{Res};
+ghost use Rattle.assign_search.specs.Watching.{IsHit, AreCovered};
 
 use crate::place_list::PlaceList;
-use resource_reqs::{Res, ResList, WantOfMemory, clash};
+use crate::ranges::Ranges;
+use resource_reqs::{Res, WantOfMemory};
 use std::alloc::Global;
 use std::marker::Model;
 
-/// The places by which movers are watched, and ranges that reach over all of them: most often one for each kind. What
-/// hits none of the ranges hits no place. A contract sees the list of places of each mover.
+/// How many movers have ranges together.
+const GROUP: usize = 64;
+
+/// The places by which movers are watched, and for each 64 movers ranges that reach over all places of theirs. A contract
+/// sees the list of places of each mover.
 #[derive(Drop)]
 pub struct Places {
     of: Vec<PlaceList>,
-    over: Vec<Res>,
+    over: Vec<Ranges>,
 }
 
 impl Model for Places {
-    ghost use Rattle.std.specs.Prelude.{List};
+    ghost use Rattle.std.specs.Prelude.{◌≤◌, ◌*◌, List, length};
     ghost use Rattle.resource_reqs.specs.Resources.{Res};
     ghost use Rattle.assign_search.specs.Watching.{AreCovered};
 
@@ -24,104 +28,20 @@ impl Model for Places {
 
     ghost view = { λ p. p.of.items };
 
-    ghost invariant = { λ p. AreCovered p.over.items p.of.items };
+    ghost invariant = { λ p. AreCovered p.over.items p.of.items × (length p.of.items ≤ 64 * length p.over.items) };
 }
 
-/// A range over both resources.
-fn widened(range: &Res, res: &Res) -> Res
-    requires kind { range.now.kind ≡ res.now.kind }
-    requires shared { range.now.shared ≡ res.now.shared }
-    ensures range { (x : Res) → Clash range.now x → Clash result x }
-    ensures res { (x : Res) → Clash res.now x → Clash result x }
+/// Ranges for a mover more, which are there where its group has some.
+fn add_group(alloc: Global, over: &mut Vec<Ranges>, movers: usize) -> Result<(), WantOfMemory>
+    requires { movers ≤ 64 * length over.old.items }
+    ensures enough { OnOk result (movers + 1 ≤ 64 * length over.new.items) }
+    ensures some { movers ≤ 64 * length over.new.items }
+    ensures kept { (watched : List (List Res)) → AreCovered over.old.items watched → AreCovered over.new.items watched }
 {
-    Res {
-        kind: range.kind,
-        lo: range.lo.min(res.lo),
-        hi: range.hi.max(res.hi),
-        shared: range.shared,
-    }
-}
-
-/// Whether two resources have one kind and are both shared or both not.
-fn is_of_sort(range: &Res, res: &Res) -> bool
-    ensures { result ≡ true → (range.now.kind ≡ res.now.kind) × (range.now.shared ≡ res.now.shared) }
-{
-    range.kind == res.kind && range.shared == res.shared
-}
-
-/// The first range of the kind and sharing of a resource.
-fn range_of(over: &[Res], res: &Res) -> Option<usize>
-    ensures { IfSome result (λ at. IsRangeOf over.now at res.now) }
-{
-    'ranges: for at in 0..over.len() {
-        if is_of_sort(&over[at], res) {
-            return Some(at);
-        }
-    }
-    None
-}
-
-/// A range is widened over the resource too.
-fn widen(over: &mut [Res], at: usize, res: &Res)
-    requires { IsRangeOf over.old at res.now }
-    ensures wider { (x : Res) → IsHit over.old x → IsHit over.new x }
-    ensures covered { (x : Res) → Clash res.now x → IsHit over.new x }
-{
-    over[at] = widened(&over[at], res);
-}
-
-/// Widens one of the ranges, or adds one, so that they reach over the resource too.
-fn cover(over: &mut Vec<Res>, res: &Res) -> Result<(), WantOfMemory>
-    ensures wider { (x : Res) → IsHit over.old.items x → IsHit over.new.items x }
-    ensures covered { OnOk result ((x : Res) → Clash res.now x → IsHit over.new.items x) }
-{
-    match range_of(over, res) {
-        Some(at) => {
-            widen(over, at, res);
-            Ok(())
-        }
-        None => {
-            over.push(*res)?;
-            Ok(())
-        }
-    }
-}
-
-/// The same for each resource of a list.
-fn cover_each(over: &mut Vec<Res>, places: &ResList) -> Result<(), WantOfMemory>
-    ensures wider { (x : Res) → IsHit over.old.items x → IsHit over.new.items x }
-    ensures covered { OnOk result ((x : Res) → IsHit places.now x → IsHit over.new.items x) }
-{
-    'places: for at in 0..places.len() {
-        cover(over, places.get(at))?;
+    if movers / GROUP == over.len() {
+        over.push(Ranges::new(alloc))?;
     }
     Ok(())
-}
-
-/// The same for each place of a mover.
-fn cover_all(over: &mut Vec<Res>, places: &PlaceList) -> Result<(), WantOfMemory>
-    ensures wider { (x : Res) → IsHit over.old.items x → IsHit over.new.items x }
-    ensures covered { OnOk result ((x : Res) → IsHit places.now x → IsHit over.new.items x) }
-{
-    match &places.first {
-        None => Ok(()),
-        Some(place) => {
-            cover(over, place)?;
-            cover_each(over, &places.rest)
-        }
-    }
-}
-
-/// Whether one of the ranges clashes with the resource.
-fn is_any_hit(over: &[Res], res: &Res) -> bool
-    ensures { IsTrue result ↔ IsHit over.now res.now }
-{
-    'hits: for at in 0..over.len() {
-        if clash(&over[at], res) {
-            return true;
-        }
-    }
-    false
 }
 
 impl Places {
@@ -140,6 +60,8 @@ impl Places {
         ensures added { OnOk result (self.new ≡ self.old ++ [] ∷ []) }
         ensures err { OnErr result (self.new ≡ self.old) }
     {
+        let movers = self.of.len();
+        add_group(alloc, &mut self.over, movers)?;
         self.of.push(PlaceList::new(alloc))?;
         Ok(())
     }
@@ -158,15 +80,30 @@ impl Places {
         ensures set { OnOk result (self.new ≡ slice_set self.old at places) }
         ensures err { OnErr result (self.new ≡ self.old) }
     {
-        cover_all(&mut self.over, &places)?;
+        self.over[at / GROUP].reach(&places)?;
         self.of[at] = places;
         Ok(())
     }
 
-    /// Whether the resource hits one of the ranges; where it does not, it hits no place.
-    pub fn may_be_hit(&self, res: &Res) -> bool
-        ensures { result ≡ false → (at : ℕ) → IsHit (get_or self.now at []) res.now → ⊥ }
+    /// The first mover from this one on of which the resource hits a place, or their number: it hits no place of those
+    /// between. Cost: a look at the ranges of each 64 movers, and at the places of those whose ranges it hits.
+    pub fn first_hit(&self, from: usize, res: &Res) -> usize
+        ensures on { from ≤ result }
+        ensures within { result ≤ max from (length self.now) }
+        ensures clear { (at : ℕ) → from ≤ at → at < result → IsHit (get_or self.now at []) res.now → ⊥ }
     {
-        is_any_hit(&self.over, res)
+        let mut at = from;
+        'movers: while at < self.of.len() {
+            let begins = at == from || at % GROUP == 0;
+            if begins && !self.over[at / GROUP].is_hit(res) {
+                at = (at / GROUP + 1) * GROUP;
+                continue;
+            }
+            if self.of[at].is_hit(res) {
+                return at;
+            }
+            at += 1;
+        }
+        from.max(self.of.len())
     }
 }

@@ -91,9 +91,9 @@ fn fixed_board(
 
 /// The same answer as of `answer`, where no mover holds anything, as at the start of a device: all that is held is
 /// fixed, and no pair is looked at for its owner. The lists of the arbiters are as before, whatever is answered.
-/// Cost: for each prefix that is tried the wants of its group and the groups that its place touches; where it hits one of
-/// a few ranges over all that is remembered, a look at what is remembered of each later mover, and a search for new places
-/// where it hits one (this project's own).
+/// Cost: for each prefix that is tried the wants of its group and the groups that its place touches; a look at a few
+/// ranges over what is remembered of each 64 later movers; where it hits one, a look at what is remembered of each of
+/// these, and a search for new places where it hits one (this project's own).
 pub fn answer_beside(
     alloc: Global,
     arbiters: &mut Arbiters,

@@ -48,7 +48,7 @@ held_apart reserved k nodes =
     ∙ blocks_swapped (pairs_of Reserved reserved) (pairs_of (Device k) (holds_of (node_at k nodes))) (node_pairs (without_first (is_node k) nodes))
 
 module _ (f : Node → Node) (keeps : (n : Node) → (f n).serial ≡ n.serial) (k : ℕ) where
-  found_changed : (nodes : List Node) → node_at k (changed_first (is_node k) f nodes) ≡ option_map f (node_at k nodes)
+  pub found_changed : (nodes : List Node) → node_at k (changed_first (is_node k) f nodes) ≡ option_map f (node_at k nodes)
   found_changed [] = refl
   found_changed (n ∷ ns) = grind (arith, nat_tests, keeps n, found_changed ns)
 

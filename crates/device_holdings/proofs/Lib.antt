@@ -7,4 +7,5 @@ pub mod RowOrder
 pub mod TieLemmas
 pub mod RowsAre
 pub mod Committing
+pub mod Counting
 pub mod Idling

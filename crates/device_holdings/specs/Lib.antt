@@ -3,3 +3,4 @@ pub mod Answers
 pub mod MapRows
 pub mod Idle
 pub mod Giving
+pub mod Noting

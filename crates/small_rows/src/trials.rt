@@ -86,8 +86,17 @@ fn some_ports() -> Result<Res, Fail> {
     }
 }
 
-/// What a trial tells: how many changes there are, and the least free place for a want.
-type Told = (u32, Option<u64>);
+/// What a trial tells: how many changes there are, the least free place for a want, and whether ports are held.
+type Told = (u32, Option<u64>, bool);
+
+/// What a trial tells now.
+fn told(trial: &Trial, want: &Want) -> Told {
+    (
+        trial.mark(),
+        trial.next_place(want, 0),
+        trial.arbiters().held(Kind::Port, 0).is_some(),
+    )
+}
 
 /// What a trial with room for one change tells at its begin, after ports are put, and after that is undone.
 fn told_by_a_trial(
@@ -99,11 +108,11 @@ fn told_by_a_trial(
     requires { (k : Kind) → (of_kind arbiters.old k).pairs ≡ [] }
 {
     let mut trial = Trial::begin(alloc, arbiters, 1)?;
-    let first = (trial.mark(), trial.next_place(want, 0));
+    let first = told(&trial, want);
     trial.put(Owner::Device(1), ports);
-    let second = (trial.mark(), trial.next_place(want, 0));
+    let second = told(&trial, want);
     trial.undo_to(0);
-    let third = (trial.mark(), trial.next_place(want, 0));
+    let third = told(&trial, want);
     trial.roll_back();
     Ok((first, second, third))
 }
@@ -114,7 +123,7 @@ fn a_trial_tells_its_changes(rt: HostRuntime) -> Result<(), Fail> {
     let mut arbiters = Arbiters::new(rt.alloc())?;
     let told = told_by_a_trial(rt.alloc(), &mut arbiters, some_ports()?, &want)?;
     match told {
-        ((0, Some(0x10)), (1, Some(0x18)), (0, Some(0x10))) => Ok(()),
+        ((0, Some(0x10), false), (1, Some(0x18), true), (0, Some(0x10), false)) => Ok(()),
         _ => Err(Fail::new("what a trial tells")),
     }
 }

@@ -49,18 +49,6 @@ arbiters_back a p room =
 pub taken_back : (a b : Arbiters) (p : Pair) → a ≡ arbiters_with b p → (of_kind b p.1.kind).spare ≡ (of_kind a p.1.kind).spare + 1 → b ≡ arbiters_without a p
 taken_back a b p is more = sym (ap (λ (x : Arbiters). arbiters_without x p) is ∙ arbiters_back b p (omega arith))
 
--- what can be taken back has room left for what may still come
-pub room_left : (room : ℕ) (now : Arbiters) (entries : List Entry) → GoesBack room now entries → (k : Kind) → room ≤ (of_kind now k).spare + length entries
-room_left room now [] back k = let fits = back k in omega arith
-room_left room now (Put owner res ∷ earlier) back k =
-    let before = room_left room (arbiters_without now (owner, res)) earlier back.1 k in
-    let less = at_each (λ (x y : Arbiter). y.spare ≤ x.spare + 1) now res.kind (arbiter_without (of_kind now res.kind) (owner, res)) (omega arith) (λ y. omega arith) k in
-    omega arith
-room_left room now (Taken owner res ∷ earlier) back k =
-    let before = room_left room (arbiters_with now (owner, res)) earlier back.1 k in
-    let less = at_each (λ (x y : Arbiter). y.spare ≤ x.spare) now res.kind (arbiter_with (of_kind now res.kind) (owner, res)) (omega arith) (λ y. omega arith) k in
-    omega arith
-
 -- one change less
 pub back_more : (mark : ℕ) (now : Arbiters) (entry : Entry) (earlier : List Entry) → mark ≤ length earlier → back_to mark now (entry ∷ earlier) ≡ back_to mark (undone now entry) earlier
 back_more mark now entry earlier few = ap (λ b. cond b now (back_to mark (undone now entry) earlier)) (not_less (length earlier) mark few)
@@ -90,24 +78,33 @@ entries_here mark (entry ∷ earlier) few = ap (λ b. cond b (entry ∷ earlier)
     less m n le = grind arith
 
 -- a pair is put in, and the change can be taken back
-pub put_goes : (room : ℕ) (now after : Arbiters) (owner : Owner) (res : Res) (entries : List Entry) → after ≡ arbiters_with now (owner, res)
-    → length entries < room → GoesBack room now entries → GoesBack room after (Put owner res ∷ entries)
-put_goes room now after owner res entries is few back =
-    let left = room_left room now entries back res.kind in
-    let before : arbiters_without after (owner, res) ≡ now = ap (λ (x : Arbiters). arbiters_without x (owner, res)) is ∙ arbiters_back now (owner, res) (omega arith) in
-    (is ∙ ap (λ (x : Arbiters). arbiters_with x (owner, res)) (sym before), subst (λ (x : Arbiters). GoesBack room x entries) (sym before) back)
+pub put_goes : (now after : Arbiters) (owner : Owner) (res : Res) (entries : List Entry) → after ≡ arbiters_with now (owner, res)
+    → 0 < (of_kind now res.kind).spare → GoesBack now entries → GoesBack after (Put owner res ∷ entries)
+put_goes now after owner res entries is some back =
+    let before : arbiters_without after (owner, res) ≡ now = ap (λ (x : Arbiters). arbiters_without x (owner, res)) is ∙ arbiters_back now (owner, res) some in
+    (is ∙ ap (λ (x : Arbiters). arbiters_with x (owner, res)) (sym before), subst (λ (x : Arbiters). GoesBack x entries) (sym before) back)
 
 -- a pair is taken away, and the change can be taken back
-pub take_goes : (room : ℕ) (now after : Arbiters) (owner : Owner) (res : Res) (entries : List Entry) → now ≡ arbiters_with after (owner, res)
-    → (of_kind after res.kind).spare ≡ (of_kind now res.kind).spare + 1 → GoesBack room now entries → GoesBack room after (Taken owner res ∷ entries)
-take_goes room now after owner res entries is more back = (omega arith, subst (λ (x : Arbiters). GoesBack room x entries) is back)
+pub take_goes : (now after : Arbiters) (owner : Owner) (res : Res) (entries : List Entry) → now ≡ arbiters_with after (owner, res)
+    → (of_kind after res.kind).spare ≡ (of_kind now res.kind).spare + 1 → GoesBack now entries → GoesBack after (Taken owner res ∷ entries)
+take_goes now after owner res entries is more back = (omega arith, subst (λ (x : Arbiters). GoesBack x entries) is back)
+
+-- how much is spare of each kind after a put, and after a take
+pub put_left : (now after : Arbiters) (owner : Owner) (res : Res) → after ≡ arbiters_with now (owner, res) → (k : Kind) → (of_kind now k).spare ≤ (of_kind after k).spare + 1
+put_left now after owner res is k =
+    subst (λ (x : Arbiters). (of_kind now k).spare ≤ (of_kind x k).spare + 1) (sym is)
+    (at_each (λ (x y : Arbiter). x.spare ≤ y.spare + 1) now res.kind (arbiter_with (of_kind now res.kind) (owner, res)) (omega arith) (λ y. omega arith) k)
+
+pub take_left : (now after : Arbiters) (owner : Owner) (res : Res) → now ≡ arbiters_with after (owner, res) → (k : Kind) → (of_kind now k).spare ≤ (of_kind after k).spare
+take_left now after owner res is k =
+    subst (λ (x : Arbiters). (of_kind x k).spare ≤ (of_kind after k).spare) (sym is)
+    (at_each (λ (x y : Arbiter). y.spare ≤ x.spare) after res.kind (arbiter_with (of_kind after res.kind) (owner, res)) (omega arith) (λ y. omega arith) k)
 
 -- before it the arbiters were as they were
-pub put_before : (room mark : ℕ) (now after : Arbiters) (owner : Owner) (res : Res) (entries : List Entry) → after ≡ arbiters_with now (owner, res)
-    → length entries < room → GoesBack room now entries → mark ≤ length entries → back_to mark after (Put owner res ∷ entries) ≡ back_to mark now entries
-put_before room mark now after owner res entries is few back low =
-    let left = room_left room now entries back res.kind in
-    let before : arbiters_without after (owner, res) ≡ now = ap (λ (x : Arbiters). arbiters_without x (owner, res)) is ∙ arbiters_back now (owner, res) (omega arith) in
+pub put_before : (mark : ℕ) (now after : Arbiters) (owner : Owner) (res : Res) (entries : List Entry) → after ≡ arbiters_with now (owner, res)
+    → 0 < (of_kind now res.kind).spare → mark ≤ length entries → back_to mark after (Put owner res ∷ entries) ≡ back_to mark now entries
+put_before mark now after owner res entries is some low =
+    let before : arbiters_without after (owner, res) ≡ now = ap (λ (x : Arbiters). arbiters_without x (owner, res)) is ∙ arbiters_back now (owner, res) some in
     back_more mark after (Put owner res) entries low ∙ ap (λ (x : Arbiters). back_to mark x entries) before
 
 pub take_before : (mark : ℕ) (now after : Arbiters) (owner : Owner) (res : Res) (entries : List Entry) → now ≡ arbiters_with after (owner, res)

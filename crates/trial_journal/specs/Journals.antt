@@ -1,6 +1,6 @@
 -- What a trial has changed, and how the arbiters were before.
-use Rattle.std.specs.Prelude.{ℕ, ◌≡◌, ◌+◌, ◌<◌, ◌≤◌, nat_lt, if◌then◌else◌, List, [], ◌∷◌, length}
-use Rattle.resource_reqs.specs.declared.kind.Kind.{Kind}
+use Rattle.std.specs.Prelude.{ℕ, ◌≡◌, ◌+◌, ◌<◌, nat_lt, if◌then◌else◌, List, [], ◌∷◌, length, map, ⊤}
+use Rattle.node_pool.specs.Chains.{Chains, chain}
 use Rattle.range_arbiter.specs.Pairs.{Pair, Arbiter, is_before}
 use Rattle.trial_journal.specs.declared.entry.Entry.{Entry}
 use Rattle.trial_journal.specs.declared.entry.Entry.TheVariants.{Put, Taken}
@@ -10,6 +10,10 @@ use Rattle.trial_journal.specs.ByKind.{Arbiters, of_kind, with_kind, arbiters_wi
 pub record Noted : Type 0 where
   pub entries : List Entry
   pub room : ℕ
+
+-- the entries that stand in a pool, the latest first
+abbrev pub entries_in : Chains Entry → List Entry
+entries_in p = map (λ x. x.1) (chain p 0)
 
 -- a list in order without a pair: without the first that does not come before it
 abbrev pub pairs_without : List Pair → Pair → List Pair
@@ -44,7 +48,7 @@ abbrev pub entries_to : ℕ → List Entry → List Entry
 entries_to mark [] = []
 entries_to mark (entry ∷ earlier) = if nat_lt (length earlier) mark then entry ∷ earlier else entries_to mark earlier
 
--- each change can be taken back, the last first; and at the begin there was room for all in each kind
-abbrev pub GoesBack : ℕ → Arbiters → List Entry → Type 0
-GoesBack room now [] = (k : Kind) → room ≤ (of_kind now k).spare
-GoesBack room now (entry ∷ earlier) = CanUndo now entry × GoesBack room (undone now entry) earlier
+-- each change can be taken back, the last first
+abbrev pub GoesBack : Arbiters → List Entry → Type 0
+GoesBack now [] = ⊤
+GoesBack now (entry ∷ earlier) = CanUndo now entry × GoesBack (undone now entry) earlier

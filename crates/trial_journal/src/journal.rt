@@ -1,35 +1,36 @@
 ghost use Rattle.std.specs.Prelude.{◌≡◌, ◌<◌, [], ◌∷◌, length, IfOk, IfSome, IfNone};
 
 use crate::entry::Entry;
+use node_pool::Pool;
 use resource_reqs::WantOfMemory;
 use std::alloc::Global;
 use std::marker::Model;
 
-/// The changes of a trial, with memory for all that may come (this project's own). A contract sees the entries,
-/// the latest first, and `room`, how many there may be.
+/// The changes of a trial, in a pool with memory for all that may come (this project's own). A contract sees the
+/// entries, the latest first, and `room`, how many there may be.
 #[derive(Drop)]
 pub struct Journal {
-    entries: Vec<Entry>,
+    entries: Pool<Entry>,
     room: u32,
 }
 
 impl Model for Journal {
-    ghost use Rattle.std.specs.Prelude.{◌≤◌, ◌<◌, ◌^◌, reverse, vec_len, vec_capacity};
-    ghost use Rattle.trial_journal.specs.Journals.{Noted};
+    ghost use Rattle.std.specs.Prelude.{◌≡◌, ◌+◌, length};
+    ghost use Rattle.trial_journal.specs.Journals.{Noted, entries_in};
 
     ghost Value = { Noted };
 
-    ghost view = { λ j. record { entries = reverse j.entries.items; room = j.room } };
+    ghost view = { λ j. record { entries = entries_in j.entries; room = j.room } };
 
-    ghost invariant = { λ j. (j.room ≤ vec_capacity j.entries) × (vec_len j.entries ≤ j.room) × (j.room < 2 ^ 32) };
+    ghost invariant = { λ j. (length j.entries.chains ≡ 1) × (length (entries_in j.entries) + j.entries.spare ≡ j.room) };
 }
 
 impl Journal {
-    /// No entry, and memory for so many.
+    /// No entry, and memory for so many. Cost: their number.
     pub fn with_room(alloc: Global, room: u32) -> Result<Journal, WantOfMemory>
         ensures { IfOk result (λ j. j ≡ record { entries = []; room = room }) }
     {
-        let entries = Vec::with_capacity(alloc, room as usize)?;
+        let entries = Pool::with_capacity(alloc, room, 1)?;
         Ok(Journal { entries, room })
     }
 
@@ -37,7 +38,7 @@ impl Journal {
     pub fn len(&self) -> u32
         ensures { result ≡ length self.now.entries }
     {
-        self.entries.len() as u32
+        self.room - self.entries.spare()
     }
 
     /// One more entry. It takes no memory.
@@ -45,7 +46,7 @@ impl Journal {
         requires { length self.old.entries < self.old.room }
         ensures { self.new ≡ record self.old { entries = entry ∷ self.old.entries } }
     {
-        let _ = self.entries.push(entry);
+        let _ = self.entries.insert_after(0, None, entry);
     }
 
     /// The latest entry, which is no longer there then; none exactly where there is none.
@@ -53,6 +54,7 @@ impl Journal {
         ensures some { IfSome result (λ entry. self.old ≡ record self.new { entries = entry ∷ self.new.entries }) }
         ensures none { IfNone result ((self.old.entries ≡ []) × (self.new ≡ self.old)) }
     {
-        self.entries.pop()
+        let place = self.entries.first(0)?;
+        Some(self.entries.remove(0, place))
     }
 }

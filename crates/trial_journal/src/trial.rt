@@ -36,12 +36,12 @@ fn undo(arbiters: &mut Arbiters, entry: Entry)
 
 /// Takes the latest changes back, the last first, until so many are left.
 fn undo_down(arbiters: &mut Arbiters, journal: &mut Journal, mark: u32)
-    requires { GoesBack journal.old.room arbiters.old journal.old.entries }
+    requires { GoesBack arbiters.old journal.old.entries }
     ensures undone { arbiters.new ≡ back_to mark arbiters.old journal.old.entries }
     ensures left { journal.new ≡ record journal.old { entries = entries_to mark journal.old.entries } }
     ensures few { length journal.new.entries ≡ min mark (length journal.old.entries) }
     ensures same_before { (m : ℕ) → m ≤ mark → back_to m arbiters.new journal.new.entries ≡ back_to m arbiters.old journal.old.entries }
-    ensures goes_back { GoesBack journal.new.room arbiters.new journal.new.entries }
+    ensures goes_back { GoesBack arbiters.new journal.new.entries }
 {
     'entries: while journal.len() > mark {
         if let Some(entry) = journal.last() {
@@ -53,12 +53,11 @@ fn undo_down(arbiters: &mut Arbiters, journal: &mut Journal, mark: u32)
 impl<'a> Tried<'a, Journal> {
     /// A trial with memory that was taken before; nothing is refused.
     pub fn over(arbiters: &'a mut Arbiters, journal: Journal) -> Trial<'a>
-        requires empty { journal.entries ≡ [] }
-        requires room { (k : Kind) → journal.room ≤ (of_kind arbiters.old k).spare }
+        requires { journal.entries ≡ [] }
         ensures same_reference { result.arbiters.ghost_name ≡ arbiters.entry.ghost_name }
         ensures now { result.arbiters.now ≡ arbiters.old }
         ensures journal { result.journal ≡ journal }
-        ensures goes_back { GoesBack result.journal.room result.arbiters.now result.journal.entries }
+        ensures goes_back { GoesBack result.arbiters.now result.journal.entries }
     {
         Tried { arbiters, journal }
     }
@@ -74,7 +73,8 @@ impl<'a> Tried<'a, Journal> {
         ensures same_reference { IfOk result (λ t. t.arbiters.ghost_name ≡ arbiters.entry.ghost_name) }
         ensures now { IfOk result (λ t. lists_of t.arbiters.now ≡ lists_of arbiters.old) }
         ensures journal { IfOk result (λ t. t.journal ≡ record { entries = []; room = room }) }
-        ensures goes_back { IfOk result (λ t. GoesBack t.journal.room t.arbiters.now t.journal.entries) }
+        ensures room { IfOk result (λ t. (k : Kind) → room ≤ (of_kind t.arbiters.now k).spare) }
+        ensures goes_back { IfOk result (λ t. GoesBack t.arbiters.now t.journal.entries) }
     {
         let journal = Journal::with_room(alloc, room)?;
         arbiters.room_of_each(room)?;
@@ -83,12 +83,14 @@ impl<'a> Tried<'a, Journal> {
 
     /// Puts a pair in, and notes it.
     pub fn put(&mut self, owner: Owner, res: Res)
-        requires goes_back { GoesBack self.old.journal.room self.old.arbiters.now self.old.journal.entries }
+        requires goes_back { GoesBack self.old.arbiters.now self.old.journal.entries }
+        requires spare { 0 < (of_kind self.old.arbiters.now res.kind).spare }
         requires room { length self.old.journal.entries < self.old.journal.room }
         ensures same_reference { self.new.arbiters.ghost_name ≡ self.old.arbiters.ghost_name }
         ensures now { self.new.arbiters.now ≡ arbiters_with self.old.arbiters.now (owner, res) }
+        ensures left { (k : Kind) → (of_kind self.old.arbiters.now k).spare ≤ (of_kind self.new.arbiters.now k).spare + 1 }
         ensures noted { self.new.journal ≡ record self.old.journal { entries = Put owner res ∷ self.old.journal.entries } }
-        ensures goes_back { GoesBack self.new.journal.room self.new.arbiters.now self.new.journal.entries }
+        ensures goes_back { GoesBack self.new.arbiters.now self.new.journal.entries }
         ensures same_before { (mark : ℕ) → mark ≤ length self.old.journal.entries → back_to mark self.new.arbiters.now self.new.journal.entries ≡ back_to mark self.old.arbiters.now self.old.journal.entries }
     {
         self.arbiters.put(owner, res);
@@ -98,13 +100,14 @@ impl<'a> Tried<'a, Journal> {
     /// Takes a pair away, and notes it.
     pub fn take(&mut self, owner: Owner, res: Res)
         requires held { Contains (of_kind self.old.arbiters.now res.kind).pairs (owner, res) }
-        requires goes_back { GoesBack self.old.journal.room self.old.arbiters.now self.old.journal.entries }
+        requires goes_back { GoesBack self.old.arbiters.now self.old.journal.entries }
         requires room { length self.old.journal.entries < self.old.journal.room }
         ensures same_reference { self.new.arbiters.ghost_name ≡ self.old.arbiters.ghost_name }
         ensures pairs { self.old.arbiters.now ≡ arbiters_with self.new.arbiters.now (owner, res) }
         ensures spare { (of_kind self.new.arbiters.now res.kind).spare ≡ (of_kind self.old.arbiters.now res.kind).spare + 1 }
+        ensures left { (k : Kind) → (of_kind self.old.arbiters.now k).spare ≤ (of_kind self.new.arbiters.now k).spare }
         ensures noted { self.new.journal ≡ record self.old.journal { entries = Taken owner res ∷ self.old.journal.entries } }
-        ensures goes_back { GoesBack self.new.journal.room self.new.arbiters.now self.new.journal.entries }
+        ensures goes_back { GoesBack self.new.arbiters.now self.new.journal.entries }
         ensures same_before { (mark : ℕ) → mark ≤ length self.old.journal.entries → back_to mark self.new.arbiters.now self.new.journal.entries ≡ back_to mark self.old.arbiters.now self.old.journal.entries }
     {
         self.arbiters.take(owner, res);
@@ -120,6 +123,13 @@ impl<'a> Tried<'a, Journal> {
         self.arbiters.next_place(want, from)
     }
 
+    /// The arbiters as they are now.
+    pub fn arbiters(&self) -> &Arbiters
+        ensures { result.now ≡ self.now.arbiters.now }
+    {
+        self.arbiters
+    }
+
     /// How many changes there are so far.
     pub fn mark(&self) -> u32
         ensures { result ≡ length self.now.journal.entries }
@@ -129,13 +139,13 @@ impl<'a> Tried<'a, Journal> {
 
     /// Takes back, the last first, what came after so many changes: the lists are as they were then, owners included.
     pub fn undo_to(&mut self, mark: u32)
-        requires { GoesBack self.old.journal.room self.old.arbiters.now self.old.journal.entries }
+        requires { GoesBack self.old.arbiters.now self.old.journal.entries }
         ensures same_reference { self.new.arbiters.ghost_name ≡ self.old.arbiters.ghost_name }
         ensures undone { self.new.arbiters.now ≡ back_to mark self.old.arbiters.now self.old.journal.entries }
         ensures left { self.new.journal ≡ record self.old.journal { entries = entries_to mark self.old.journal.entries } }
         ensures few { length self.new.journal.entries ≡ min mark (length self.old.journal.entries) }
         ensures same_before { (m : ℕ) → m ≤ mark → back_to m self.new.arbiters.now self.new.journal.entries ≡ back_to m self.old.arbiters.now self.old.journal.entries }
-        ensures goes_back { GoesBack self.new.journal.room self.new.arbiters.now self.new.journal.entries }
+        ensures goes_back { GoesBack self.new.arbiters.now self.new.journal.entries }
     {
         undo_down(self.arbiters, &mut self.journal, mark);
     }
@@ -152,7 +162,7 @@ impl<'a> Tried<'a, Journal> {
 
     /// Gives the lists back as they were at the begin, owners included.
     pub fn roll_back(self)
-        requires { GoesBack self.journal.room self.arbiters.now self.journal.entries }
+        requires { GoesBack self.arbiters.now self.journal.entries }
         ensures { self.exit.0.now ≡ back_to 0 self.entry.arbiters.now self.entry.journal.entries }
     {
         let Tried {

@@ -1,10 +1,9 @@
-use Rattle.std.proofs.Common.{◌≡◌, ◌++◌, sym, subst, ◌∙◌, arith}
-use Rattle.std.proofs.lemmas.List.Sums.{sum_by-cons}
+use Rattle.std.proofs.Common.{◌≡◌, ◌++◌, sym, subst, ◌∙◌}
 use Rattle.resource_reqs.specs.declared.owner.Owner.TheVariants.{Device}
 use Rattle.pnp_model.specs.Cores.{node_at}
 use Rattle.devnode_tree.specs.Trees.{Tree}
-use Rattle.device_holdings.specs.Mirrors.{pairs_of, count_of, Mirrors}
-use Rattle.device_holdings.proofs.Apart.{holds_of, pairs_beside, swapped_out, old_first, longer, assigned}
+use Rattle.device_holdings.specs.Mirrors.{pairs_of, Mirrors}
+use Rattle.device_holdings.proofs.Apart.{holds_of, pairs_beside, swapped_out, old_first, assigned}
 use Rattle.device_holdings.proofs.Committing.{spare_one, few_one}
 use Rattle.device_holdings.proofs.holding.replace.Goals as goal
 use Rattle.device_holdings.proofs.holding.replace.Goals.{After-swap_holds-old}
@@ -31,16 +30,3 @@ returns-clause-mirrors c = λ reserved m.
     subst (λ (t : Tree). Mirrors reserved t.nodes c.take_all.new.arbiters) (sym c.swap_holds-old.ensures.set)
     (assigned reserved k nodes c.swap_holds-old.result (was_held at) c.args.arbiters.now m c.args.holds c.put_all.new.arbiters c.put_all.ensures.put
     c.requires.there (few_one c.args.arbiters.now c.args.holds c.requires.room) c.take_all.new.arbiters c.take_all.ensures.taken)
-
-pub returns-clause-room : goal.returns-clause-room
-returns-clause-room c = λ more room.
-    let at = (goal.at.returns-clause-room c).After-swap_holds-old in
-    let k = c.args.serial in let nodes = c.args.tree.now.nodes in record {
-      spare = λ kind.
-          let all = sum_by-cons (count_of kind) c.args.holds more in
-          let free = room.spare kind in let put = c.put_all.ensures.spare kind in let taken = c.take_all.ensures.spare kind in omega arith;
-      few = λ kind.
-          let long = longer c.requires.mirrored.0 k nodes c.swap_holds-old.result (was_held at) c.args.arbiters.now c.requires.mirrored.1 c.args.holds c.put_all.new.arbiters c.put_all.ensures.put c.take_all.new.arbiters c.take_all.ensures.taken kind in
-          let all = sum_by-cons (count_of kind) c.args.holds more in
-          let few = room.few kind in omega arith;
-    }

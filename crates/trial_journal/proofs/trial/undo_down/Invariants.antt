@@ -8,7 +8,7 @@ invariant-entries l = record {
   room : l.journal.room ≡ l.initial.journal.room;
   undone : back_to l.mark l.arbiters l.journal.entries ≡ back_to l.mark l.initial.arbiters l.initial.journal.entries;
   left : entries_to l.mark l.journal.entries ≡ entries_to l.mark l.initial.journal.entries;
-  goes_back : GoesBack l.journal.room l.arbiters l.journal.entries;
+  goes_back : GoesBack l.arbiters l.journal.entries;
 }
 
 abbrev pub decreases-entries : goal.decreases-entries
