@@ -29,6 +29,7 @@ pub struct Mark {
 }
 
 /// What is known with a pair more, where that can be told from what was known.
+#[inline(always)]
 fn known_and(known: Option<Known>, pair: &(Owner, Res)) -> Option<Known>
     ensures { (xs : List Pair) → IfSome known (λ k. Knows xs k) → IfSome result (λ k. Knows (xs ++ pair.now ∷ []) k) }
 {
@@ -50,6 +51,7 @@ fn known_of_both(known: Option<Known>, others: Option<Known>) -> Option<Known>
 
 impl Mark {
     /// Of one pair.
+    #[inline(always)]
     pub fn single(place: Place, pair: (Owner, Res)) -> Mark
         ensures { IsRun ((place.node, pair) ∷ []) result }
     {
@@ -58,30 +60,32 @@ impl Mark {
             last: place,
             low: pair,
             count: 1,
-            known: Some(Known::nothing().and(&pair)),
+            known: None,
             newest: None,
             before: None,
         }
     }
 
-    /// With a pair more, which was put in at a place behind one of its own, or in front of them.
-    pub fn with(&self, behind: Option<Place>, place: Place, pair: (Owner, Res)) -> Mark
-        requires { self.now.count + 1 < 2 ^ 32 }
-        ensures { (xs ys : List Node) → IsRun (xs ++ ys) self.now → Apart (places (xs ++ (place.node, pair) ∷ ys)) → EndsAt xs pair behind → IsRun (xs ++ (place.node, pair) ∷ ys) result }
+    /// One pair more, which was put in at a place behind one of its own, or in front of them.
+    #[inline(always)]
+    pub fn add(&mut self, behind: Option<Place>, place: Place, pair: (Owner, Res))
+        requires { self.old.count + 1 < 2 ^ 32 }
+        ensures { (xs ys : List Node) → IsRun (xs ++ ys) self.old → Apart (places (xs ++ (place.node, pair) ∷ ys)) → EndsAt xs pair behind → IsRun (xs ++ (place.node, pair) ∷ ys) self.new }
     {
         let (first, low) = self.first_with(behind, place, pair);
-        Mark {
-            first,
-            last: self.last_with(behind, place),
-            low,
-            count: self.count + 1,
-            known: known_and(self.known, &pair),
-            newest: Some(place),
-            before: self.known,
-        }
+        let last = self.last_with(behind, place);
+        let known = known_and(self.known, &pair);
+        self.first = first;
+        self.low = low;
+        self.last = last;
+        self.count += 1;
+        self.newest = Some(place);
+        self.before = self.known;
+        self.known = known;
     }
 
     /// The first place and pair with one more behind a place.
+    #[inline(always)]
     fn first_with(
         &self,
         behind: Option<Place>,
@@ -97,6 +101,7 @@ impl Mark {
     }
 
     /// The last place with one more behind that one.
+    #[inline(always)]
     fn last_with(&self, behind: Option<Place>, place: Place) -> Place
         ensures { (xs ys : List Node) (p : Pair) → IsRun (xs ++ ys) self.now → Apart (places (xs ++ ys)) → EndsAt xs p behind → IsLast (xs ++ (place.node, p) ∷ ys) result.node }
     {

@@ -50,21 +50,20 @@ fn put_node(pool: &mut Pool<(Owner, Res)>, behind: Option<Place>, pair: &(Owner,
     }
 }
 
-/// With what is known of the pairs made anew, where nothing is known; that of few pairs is not, since they are gone through as
-/// fast.
-fn known_anew(pool: &Pool<(Owner, Res)>, mark: Mark) -> Mark
-    requires stands { Stands pool.now 0 mark.first.node }
-    requires long { mark.count ≤ length (tail_of mark.first.node (nodes_of pool.now)) }
-    ensures { (run : List Node) → run_at (nodes_of pool.now) mark.first.node mark.count ≡ run → IsRun run mark → IsRun run result }
+/// Of so many pairs, or fewer, nothing need be known: they are gone through as fast.
+const FEW: u32 = 8;
+
+/// Makes anew what is known of the pairs of a run, where nothing is known and they are not few.
+#[inline(always)]
+pub fn know_anew(pool: &Pool<(Owner, Res)>, mark: &mut Mark)
+    requires stands { Stands pool.now 0 mark.old.first.node }
+    requires long { mark.old.count ≤ length (tail_of mark.old.first.node (nodes_of pool.now)) }
+    ensures { (run : List Node) → run_at (nodes_of pool.now) mark.old.first.node mark.old.count ≡ run → IsRun run mark.old → IsRun run mark.new }
 {
-    if mark.known.is_some() || mark.count < 8 {
-        return mark;
+    if mark.count <= FEW || mark.known.is_some() {
+        return;
     }
-    let known = known_at(pool, mark.first, mark.count);
-    Mark {
-        known: Some(known),
-        ..mark
-    }
+    mark.known = Some(known_at(pool, mark.first, mark.count));
 }
 
 /// Notes a pair that was put in as one of its run.
@@ -84,8 +83,9 @@ fn note_within(
     ensures capacity { vec_capacity marks.new ≡ vec_capacity marks.old }
 {
     pool.places_differ(0);
-    let more = marks[spot.at].with(spot.behind, place, pair);
-    marks[spot.at] = known_anew(pool, more);
+    let mark = &mut marks[spot.at];
+    mark.add(spot.behind, place, pair);
+    know_anew(pool, mark);
 }
 
 /// Where the mark of a pair comes that stands in a run of its own, next to its own run: behind this one where the pair goes to

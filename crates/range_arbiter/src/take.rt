@@ -8,12 +8,13 @@ ghost use Rattle.range_arbiter.specs.Runs.{IsRun, IsFirst, IsLast, IsMarked, IsH
 
 use crate::known::Known;
 use crate::mark::Mark;
-use crate::put::find;
+use crate::put::{find, know_anew};
 use crate::run::{step, step_back};
 use node_pool::{Place, Pool};
 use resource_reqs::{Owner, Res};
 
 /// What is known without the pair at a place: nothing, but where it was put last.
+#[inline(always)]
 fn known_without(mark: &Mark, place: Place) -> Option<Known>
     ensures { (run : List Node) → IsRun run mark.now → IfSome result (λ k. Knows (pairs_of (without_place place.node run)) k) }
 {
@@ -25,6 +26,7 @@ fn known_without(mark: &Mark, place: Place) -> Option<Known>
 }
 
 /// The first place without one of the run, which is not its only one.
+#[inline(always)]
 fn first_without(pool: &Pool<(Owner, Res)>, mark: &Mark, place: Place) -> Place
     requires stands { Stands pool.now 0 place.node }
     requires first { Stands pool.now 0 mark.now.first.node }
@@ -40,6 +42,7 @@ fn first_without(pool: &Pool<(Owner, Res)>, mark: &Mark, place: Place) -> Place
 }
 
 /// The last place without one of the run, which is not its only one.
+#[inline(always)]
 fn last_without(pool: &Pool<(Owner, Res)>, mark: &Mark, place: Place) -> Place
     requires stands { Stands pool.now 0 place.node }
     requires several { 1 < mark.now.count }
@@ -52,24 +55,24 @@ fn last_without(pool: &Pool<(Owner, Res)>, mark: &Mark, place: Place) -> Place
     mark.last
 }
 
-/// A mark without the pair at a place, before that is taken out.
-fn without(pool: &Pool<(Owner, Res)>, mark: &Mark, place: Place) -> Mark
+/// A mark loses the pair at a place, before that is taken out.
+#[inline(always)]
+fn cut(pool: &Pool<(Owner, Res)>, mark: &mut Mark, place: Place)
     requires stands { Stands pool.now 0 place.node }
-    requires first { Stands pool.now 0 mark.now.first.node }
-    requires several { 1 < mark.now.count }
-    ensures { (front xs ys back : List Node) (p : Pair) → nodes_of pool.now ≡ front ++ ((xs ++ (place.node, p) ∷ ys) ++ back) → IsRun (xs ++ (place.node, p) ∷ ys) mark.now → IsRun (xs ++ ys) result }
+    requires first { Stands pool.now 0 mark.old.first.node }
+    requires several { 1 < mark.old.count }
+    ensures { (front xs ys back : List Node) (p : Pair) → nodes_of pool.now ≡ front ++ ((xs ++ (place.node, p) ∷ ys) ++ back) → IsRun (xs ++ (place.node, p) ∷ ys) mark.old → IsRun (xs ++ ys) mark.new }
 {
     pool.places_differ(0);
     let first = first_without(pool, mark, place);
-    Mark {
-        first,
-        last: last_without(pool, mark, place),
-        low: *pool.get(0, first),
-        count: mark.count - 1,
-        known: known_without(mark, place),
-        newest: None,
-        before: None,
-    }
+    let last = last_without(pool, mark, place);
+    let known = known_without(mark, place);
+    mark.first = first;
+    mark.last = last;
+    mark.low = *pool.get(0, first);
+    mark.count -= 1;
+    mark.known = known;
+    mark.newest = None;
 }
 
 /// Whether a run has few pairs.
@@ -140,9 +143,11 @@ fn take_at(pool: &mut Pool<(Owner, Res)>, marks: &mut Vec<Mark>, at: usize, plac
         marks.remove(at);
         return;
     }
-    let rest = without(pool, &marks[at], place);
+    let mark = &mut marks[at];
+    cut(pool, mark, place);
     pool.remove(0, place);
-    marks[at] = rest;
+    pool.places_differ(0);
+    know_anew(pool, mark);
     join_light(marks, at);
 }
 

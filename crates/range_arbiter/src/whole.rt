@@ -53,19 +53,30 @@ impl Whole {
         }
     }
 
+    /// Where nothing is known.
+    #[inline(always)]
+    fn unknown() -> Whole
+        ensures { (xs : List Pair) → Tells xs result }
+    {
+        Whole {
+            known: None,
+            last: None,
+            before: None,
+        }
+    }
+
     /// After a pair was put.
     #[inline(always)]
     pub fn and(self, pair: (Owner, Res)) -> Whole
         ensures { (xs : List Pair) → Tells xs self → Tells (pairs_with xs pair) result }
     {
-        let known = match self.known {
-            Some(known) => Some(known.and(&pair)),
-            None => None,
-        };
-        Whole {
-            known,
-            last: Some(pair),
-            before: self.known,
+        match self.known {
+            Some(known) => Whole {
+                known: Some(known.and(&pair)),
+                last: Some(pair),
+                before: self.known,
+            },
+            None => Whole::unknown(),
         }
     }
 
