@@ -11,6 +11,7 @@ use trial_journal::Arbiters;
 const NO_DEVICE: u64 = 18_446_744_073_709_551_615;
 
 /// Puts a pair on the board, and takes the memory for it before; after want of memory the lists are as before.
+#[inline(always)]
 pub fn add(board: &mut Arbiters, owner: Owner, res: Res) -> Result<(), WantOfMemory>
     requires { length (all_pairs board.old) + 1 < 2 ^ 32 }
     ensures put { OnOk result (lists_of board.new ≡ put_in (lists_of board.old) res.kind (owner, res)) }
@@ -22,6 +23,7 @@ pub fn add(board: &mut Arbiters, owner: Owner, res: Res) -> Result<(), WantOfMem
 }
 
 /// Holds what a step places, for the trial; after want of memory the lists are as before.
+#[inline(always)]
 pub fn hold(board: &mut Arbiters, res: &Option<Res>) -> Result<(), WantOfMemory>
     requires { length (all_pairs board.old) + 1 < 2 ^ 32 }
     ensures held { OnOk result (lists_of board.new ≡ lists_holding (lists_of board.old) res.now) }
@@ -34,6 +36,7 @@ pub fn hold(board: &mut Arbiters, res: &Option<Res>) -> Result<(), WantOfMemory>
 }
 
 /// Takes away again what a step placed.
+#[inline(always)]
 pub fn release(board: &mut Arbiters, res: &Option<Res>)
     requires { ForSome res.now (λ r. Contains (of_kind board.old r.kind).pairs (trial, r)) }
     ensures { lists_holding (lists_of board.new) res.now ≡ lists_of board.old }

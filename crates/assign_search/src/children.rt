@@ -12,6 +12,7 @@ use resource_reqs::AltList;
 use trial_journal::Arbiters;
 
 /// The first mover from this one on that has lists, or the number of movers.
+#[inline(always)]
 fn first_listed(movers: &[Mover], from: usize) -> usize
     requires { from ≤ length movers.now }
     ensures within { result ≤ length movers.now }
@@ -27,6 +28,7 @@ fn first_listed(movers: &[Mover], from: usize) -> usize
 }
 
 /// The first list from this number on of the first mover from this one on that has lists.
+#[inline(always)]
 fn list_child(movers: &[Mover], mover: usize, from: Step) -> Option<Child>
     requires { mover ≤ length movers.now }
     ensures found { IfSome result (λ child. (held : List Res) → IsChild held (map reqs_of movers.now) [] (drop mover (map reqs_of movers.now)) (coord_of from) child) }
@@ -57,6 +59,7 @@ struct Start {
 }
 
 /// The want and the start from which a coordinate leaves places to be tried.
+#[inline(always)]
 fn start_of(from: Step) -> Start
     ensures up { (v t : ℕ) → (¬ Less (place v t) (coord_of from)) → ¬ Less (place v t) (place result.want result.start) }
     ensures down { (v t : ℕ) → (¬ Less (place v t) (place result.want result.start)) → ¬ Less (place v t) (coord_of from) }
@@ -68,6 +71,7 @@ fn start_of(from: Step) -> Start
 }
 
 /// The first place from a coordinate on, of the group in hand.
+#[inline(always)]
 fn pick_child(
     board: &Arbiters,
     groups: &AltList,
@@ -96,6 +100,7 @@ fn pick_child(
 }
 
 /// The first open coordinate from this one on.
+#[inline(always)]
 pub fn next_child(board: &Arbiters, movers: &[Mover], spot: Spot, from: Step) -> Option<Child>
     requires { IsSpot (map reqs_of movers.now) spot }
     ensures found { IfSome result (λ child. IsChild (held_in board.now) (map reqs_of movers.now) (groups_at (map reqs_of movers.now) spot) (movers_at (map reqs_of movers.now) spot) (coord_of from) child) }
@@ -115,6 +120,7 @@ pub fn next_child(board: &Arbiters, movers: &[Mover], spot: Spot, from: Step) ->
 }
 
 /// Whether no mover from this one on has lists.
+#[inline(always)]
 fn no_list_from(movers: &[Mover], from: usize) -> bool
     requires { from ≤ length movers.now }
     ensures { IsTrue result ↔ AllByRecursion (λ reqs. reqs ≡ []) (drop from (map reqs_of movers.now)) }
@@ -123,6 +129,7 @@ fn no_list_from(movers: &[Mover], from: usize) -> bool
 }
 
 /// Whether nothing is left to spell.
+#[inline(always)]
 pub fn is_complete(movers: &[Mover], spot: Spot) -> bool
     requires { IsSpot (map reqs_of movers.now) spot }
     ensures { IsTrue result ↔ ((groups_at (map reqs_of movers.now) spot ≡ []) × AllByRecursion (λ reqs. reqs ≡ []) (movers_at (map reqs_of movers.now) spot)) }

@@ -17,6 +17,7 @@ use trial_journal::Arbiters;
 /// one before it. A list that is chosen leaves the later movers as they are, and where it is the only one of a mover
 /// that is watched nothing is looked at; a place is looked at beside the groups that it touches, and beside the movers
 /// whose places it hits.
+#[inline(always)]
 pub fn is_live_child(
     alloc: Global,
     board: &Arbiters,

@@ -25,6 +25,7 @@ pub struct Pick {
 }
 
 /// The resource of a want at a start.
+#[inline(always)]
 pub fn place_at(want: &Want, start: u64) -> Res
     requires { May want.now (res_at want.now start) }
     ensures { result ≡ res_at want.now start }
@@ -38,6 +39,7 @@ pub fn place_at(want: &Want, start: u64) -> Res
 }
 
 /// What to try after a place of a want: its next start, or the next want where there is none.
+#[inline(always)]
 fn after_place(want: &Want, at: u32, start: u64) -> Step
     requires { at < 16 }
     ensures later { Less (place at start) (coord_of result) }
@@ -51,6 +53,7 @@ fn after_place(want: &Want, at: u32, start: u64) -> Step
 }
 
 /// The first want of the group, from a want and a start on, that has an open place, and its first one.
+#[inline(always)]
 pub fn first_pick(board: &Arbiters, group: &Group, want: u32, from: u64) -> Option<Pick>
     ensures found { IfSome result (λ pick. OpenPick (held_in board.now) group.now pick.want pick.start) }
     ensures made { IfSome result (λ pick. (w : Want) × (slice_get group.now pick.want ≡ Some w) × (pick.res ≡ res_at w pick.start)) }
@@ -82,6 +85,7 @@ const PROBES: u32 = 12;
 
 /// An open place of the want, late in its range where one is found there: from a few lengths before its last start, then
 /// from starts that lie further and further back, else its first one; none exactly where no place of it is open.
+#[inline(always)]
 fn late_start(board: &Arbiters, need: &Want) -> Option<u64>
     ensures found { IfSome result (λ s. IsOpen (held_in board.now) need.now s) }
     ensures none { IfNone result ((t : ℕ) → ¬ IsOpen (held_in board.now) need.now t) }
@@ -109,6 +113,7 @@ fn late_start(board: &Arbiters, need: &Want) -> Option<u64>
 
 /// Some open place of the group, late in its first want where there is one; none exactly where no place of the
 /// group is open. The search takes the earliest places, so that a late one is seldom hit by what it places.
+#[inline(always)]
 pub fn late_place(board: &Arbiters, group: &Group) -> Option<Res>
     ensures found { IfSome result (λ res. IsPlaceOf (held_in board.now) group.now res) }
     ensures none { IfNone result (¬ HasOpen (held_in board.now) group.now) }
@@ -127,6 +132,7 @@ pub fn late_place(board: &Arbiters, group: &Group) -> Option<Res>
 }
 
 /// Whether some want of the group has an open place.
+#[inline(always)]
 fn has_open(board: &Arbiters, group: &Group) -> bool
     ensures { IsTrue result ↔ HasOpen (held_in board.now) group.now }
 {
@@ -173,6 +179,7 @@ pub fn all_lists(board: &Arbiters, movers: &[Mover], from: usize) -> bool
 }
 
 /// Whether some place of the want may clash with the resource.
+#[inline(always)]
 fn touches(want: &Want, res: &Res) -> bool
     ensures { IsTrue result ↔ Touches want.now res.now }
 {
@@ -183,6 +190,7 @@ fn touches(want: &Want, res: &Res) -> bool
 }
 
 /// Whether some place of some want of the group may clash with the resource.
+#[inline(always)]
 fn touches_group(group: &Group, res: &Res) -> bool
     ensures { IsTrue result ↔ TouchesGroup group.now res.now }
 {
@@ -196,6 +204,7 @@ fn touches_group(group: &Group, res: &Res) -> bool
 
 /// Whether each group of the list from this one on still has an open place beside a resource that came to
 /// what was held: only those that it touches are looked at anew.
+#[inline(always)]
 pub fn groups_beside(board: &Arbiters, list: &AltList, from: u32, res: &Res) -> bool
     ensures { (before : List Res) → Adds before res.now (held_in board.now) → AllOpen before (drop from list.now) → IsTrue result ↔ AllOpen (held_in board.now) (drop from list.now) }
 {

@@ -13,6 +13,7 @@ pub struct Mover<'a> {
 }
 
 /// What the mover at a place asks for.
+#[inline(always)]
 pub fn reqs_at<'a>(movers: &[Mover<'a>], at: usize) -> &'a Reqs
     requires { at < length movers.now }
     ensures { slice_get (map reqs_of movers.now) at ≡ Some result.now }
@@ -21,6 +22,7 @@ pub fn reqs_at<'a>(movers: &[Mover<'a>], at: usize) -> &'a Reqs
 }
 
 /// The groups of a list.
+#[inline(always)]
 pub fn groups_of<'a>(movers: &[Mover<'a>], mover: usize, list: u32) -> &'a AltList
     requires mover { mover < length movers.now }
     requires list { list < length (get_or (map reqs_of movers.now) mover []) }

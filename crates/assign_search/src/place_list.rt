@@ -57,6 +57,7 @@ impl PlaceList {
     }
 
     /// Whether one of the places clashes with the resource.
+    #[inline(always)]
     pub fn is_hit(&self, res: &Res) -> bool
         ensures { IsTrue result ↔ IsHit self.now res.now }
     {

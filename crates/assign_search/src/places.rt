@@ -67,6 +67,7 @@ impl Places {
     }
 
     /// The places of a mover.
+    #[inline(always)]
     pub fn get(&self, at: usize) -> &PlaceList
         requires { at < length self.now }
         ensures { result.now ≡ get_or self.now at [] }
@@ -75,6 +76,7 @@ impl Places {
     }
 
     /// A mover gets other places.
+    #[inline(always)]
     pub fn set(&mut self, at: usize, places: PlaceList) -> Result<(), WantOfMemory>
         requires { at < length self.old }
         ensures set { OnOk result (self.new ≡ slice_set self.old at places) }
@@ -87,6 +89,7 @@ impl Places {
 
     /// The first mover from this one on of which the resource hits a place, or their number: it hits no place of those
     /// between. Cost: a look at the ranges of each 64 movers, and at the places of those whose ranges it hits.
+    #[inline(always)]
     pub fn first_hit(&self, from: usize, res: &Res) -> usize
         ensures on { from ≤ result }
         ensures within { result ≤ max from (length self.now) }

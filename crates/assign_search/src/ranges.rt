@@ -24,6 +24,7 @@ impl Model for Ranges {
 }
 
 /// A range over both resources.
+#[inline(always)]
 fn widened(range: &Res, res: &Res) -> Res
     requires kind { range.now.kind ≡ res.now.kind }
     requires shared { range.now.shared ≡ res.now.shared }
@@ -39,6 +40,7 @@ fn widened(range: &Res, res: &Res) -> Res
 }
 
 /// Whether two resources have one kind and are both shared or both not.
+#[inline(always)]
 fn is_of_sort(range: &Res, res: &Res) -> bool
     ensures { result ≡ true → (range.now.kind ≡ res.now.kind) × (range.now.shared ≡ res.now.shared) }
 {
@@ -46,6 +48,7 @@ fn is_of_sort(range: &Res, res: &Res) -> bool
 }
 
 /// The first range of the kind and sharing of a resource.
+#[inline(always)]
 fn range_of(over: &[Res], res: &Res) -> Option<usize>
     ensures { IfSome result (λ at. IsRangeOf over.now at res.now) }
 {
@@ -58,6 +61,7 @@ fn range_of(over: &[Res], res: &Res) -> Option<usize>
 }
 
 /// A range is widened over the resource too.
+#[inline(always)]
 fn widen(over: &mut [Res], at: usize, res: &Res)
     requires { IsRangeOf over.old at res.now }
     ensures wider { (x : Res) → IsHit over.old x → IsHit over.new x }
@@ -67,6 +71,7 @@ fn widen(over: &mut [Res], at: usize, res: &Res)
 }
 
 /// Widens one of the ranges, or adds one, so that they reach over the resource too.
+#[inline(always)]
 fn cover(over: &mut Vec<Res>, res: &Res) -> Result<(), WantOfMemory>
     ensures wider { (x : Res) → IsHit over.old.items x → IsHit over.new.items x }
     ensures covered { OnOk result ((x : Res) → Clash res.now x → IsHit over.new.items x) }
@@ -95,6 +100,7 @@ fn cover_each(over: &mut Vec<Res>, places: &ResList) -> Result<(), WantOfMemory>
 }
 
 /// The same for each place of a mover.
+#[inline(always)]
 fn cover_all(over: &mut Vec<Res>, places: &PlaceList) -> Result<(), WantOfMemory>
     ensures wider { (x : Res) → IsHit over.old.items x → IsHit over.new.items x }
     ensures covered { OnOk result ((x : Res) → IsHit places.now x → IsHit over.new.items x) }
@@ -109,6 +115,7 @@ fn cover_all(over: &mut Vec<Res>, places: &PlaceList) -> Result<(), WantOfMemory
 }
 
 /// Whether one of the ranges clashes with the resource.
+#[inline(always)]
 fn is_any_hit(over: &[Res], res: &Res) -> bool
     ensures { IsTrue result ↔ IsHit over.now res.now }
 {
@@ -131,6 +138,7 @@ impl Ranges {
     }
 
     /// Widens ranges, or adds some, so that they reach over these places too.
+    #[inline(always)]
     pub fn reach(&mut self, places: &PlaceList) -> Result<(), WantOfMemory>
         ensures wider { (x : Res) → IsHit self.old x → IsHit self.new x }
         ensures covered { OnOk result ((x : Res) → IsHit places.now x → IsHit self.new x) }
@@ -139,6 +147,7 @@ impl Ranges {
     }
 
     /// Whether one of the ranges clashes with the resource.
+    #[inline(always)]
     pub fn is_hit(&self, res: &Res) -> bool
         ensures { IsTrue result ↔ IsHit self.now res.now }
     {

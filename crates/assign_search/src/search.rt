@@ -22,6 +22,7 @@ use std::alloc::Global;
 use trial_journal::Arbiters;
 
 /// The frame of a child that is taken.
+#[inline(always)]
 fn frame_of(before: Spot, child: &Child) -> Frame
     ensures { result ≡ record { before = before; step = child.now.step; next = child.now.next; res = child.now.res } }
 {
@@ -35,6 +36,7 @@ fn frame_of(before: Spot, child: &Child) -> Frame
 
 /// Appends the frame of what was put on the board last; after want of memory the path is as before, and what
 /// the frame placed is taken off the board.
+#[inline(always)]
 fn grow(board: &mut Arbiters, path: &mut Vec<Frame>, frame: Frame) -> Result<(), WantOfMemory>
     requires { ForSome frame.res (λ r. Contains (of_kind board.old r.kind).pairs (trial, r)) }
     ensures path { OnOk result (path.new.items ≡ path.old.items ++ frame ∷ []) }
@@ -51,6 +53,7 @@ fn grow(board: &mut Arbiters, path: &mut Vec<Frame>, frame: Frame) -> Result<(),
 
 /// Whether a prefix that grows by a child is live. After want of memory what the child placed is taken off the
 /// board.
+#[inline(always)]
 fn look_ahead(
     alloc: Global,
     board: &mut Arbiters,

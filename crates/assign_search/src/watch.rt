@@ -39,6 +39,7 @@ pub fn no_watch(alloc: Global, movers: &[Mover]) -> Result<Watch, WantOfMemory>
 }
 
 /// Whether the resource may come from the first want of the group.
+#[inline(always)]
 fn is_first_place(group: &Group, res: &Res) -> bool
     ensures { result ≡ true → (want : Want) × (slice_get group.now 0 ≡ Some want) × May want res.now }
 {
@@ -47,6 +48,7 @@ fn is_first_place(group: &Group, res: &Res) -> bool
 
 /// Some open place of the group, none exactly where it has none: the one that is known to clash with nothing held, where
 /// it may come from the first want, else `late_place`.
+#[inline(always)]
 fn known_place(board: &Arbiters, group: &Group, known: &Option<Res>) -> Option<Res>
     requires { IfSome known.now (λ res. Free (held_in board.now) res) }
     ensures found { IfSome result (λ res. IsPlaceOf (held_in board.now) group.now res) }
@@ -61,6 +63,7 @@ fn known_place(board: &Arbiters, group: &Group, known: &Option<Res>) -> Option<R
 }
 
 /// The same for the group at a place of its list, to whose first one alone the known place goes.
+#[inline(always)]
 fn place_for(board: &Arbiters, group: &Group, at: u32, known: &Option<Res>) -> Option<Res>
     requires { IfSome known.now (λ res. Free (held_in board.now) res) }
     ensures found { IfSome result (λ res. IsPlaceOf (held_in board.now) group.now res) }
@@ -74,6 +77,7 @@ fn place_for(board: &Arbiters, group: &Group, at: u32, known: &Option<Res>) -> O
 
 /// A place for each group of the list, none exactly where some group has no open place. One that is known to clash with
 /// nothing held is the first one, where it may come from the first want of the first group.
+#[inline(always)]
 fn list_places(
     alloc: Global,
     board: &Arbiters,
@@ -120,6 +124,7 @@ fn mover_places(
 }
 
 /// Whether the mover has one list alone, of which it is remembered that each of its groups has an open place.
+#[inline(always)]
 pub fn is_known_open(movers: &[Mover], mover: usize, watch: &Watch) -> bool
     requires { mover < length movers.now }
     ensures { result ≡ true → (held : List Res) (list : ℕ) → AllWatched held (map reqs_of movers.now) watch.now.sure watch.now.places
@@ -132,6 +137,7 @@ pub fn is_known_open(movers: &[Mover], mover: usize, watch: &Watch) -> bool
 }
 
 /// The first mover from this one on that is not known or of which the resource hits a place, or their number.
+#[inline(always)]
 fn next_unsure(watch: &Watch, from: usize, res: &Res) -> usize
     ensures on { from ≤ result }
     ensures within { result ≤ max from (length watch.now.places) }

@@ -34,6 +34,7 @@ impl NumberArbiter {
     }
 
     /// Takes memory so that `spare` is at least `more`. What is held stays, whatever is answered.
+    #[inline(always)]
     pub fn room(&mut self, more: u32) -> Result<(), WantOfMemory>
         requires { length self.old.pairs + more < 2 ^ 32 }
         ensures ok { OnOk result (more ≤ self.new.spare) }
@@ -44,6 +45,7 @@ impl NumberArbiter {
     }
 
     /// How many more pairs there is room for.
+    #[inline(always)]
     pub fn spare(&self) -> u32
         ensures { result ≡ self.now.spare }
     {
@@ -52,6 +54,7 @@ impl NumberArbiter {
 
     /// The least start at or above `from` whose resource may come from the want and clashes with nothing
     /// held; none exactly where there is none. It takes no memory. Cost: that of `RangeArbiter::next_place`.
+    #[inline(always)]
     pub fn next_place(&self, want: &Want, from: u64) -> Option<u64>
         requires { want.now.kind ≡ self.now.kind }
         ensures found { IfSome result (λ s. (from ≤ s) × IsOpen (res_list self.now.pairs) want.now s) }
@@ -69,6 +72,7 @@ impl NumberArbiter {
     }
 
     /// Puts the pair at its place. It takes no memory. Cost: that of `RangeArbiter::put`.
+    #[inline(always)]
     pub fn put(&mut self, owner: Owner, res: Res)
         requires kind { res.kind ≡ self.old.kind }
         requires spare { 0 < self.old.spare }
@@ -78,6 +82,7 @@ impl NumberArbiter {
     }
 
     /// Takes the pair away: with it the list is as before. It takes no memory. Cost: that of `RangeArbiter::take`.
+    #[inline(always)]
     pub fn take(&mut self, owner: Owner, res: Res)
         requires { Contains self.old.pairs (owner, res) }
         ensures pairs { self.old.pairs ≡ pairs_with self.new.pairs (owner, res) }

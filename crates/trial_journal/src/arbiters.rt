@@ -49,6 +49,7 @@ impl Arbiters {
     }
 
     /// Takes memory so that `spare` of the kind is at least `more`. What is held stays, whatever is answered.
+    #[inline(always)]
     pub fn room(&mut self, kind: Kind, more: u32) -> Result<(), WantOfMemory>
         requires { length (of_kind self.old kind).pairs + more < 2 ^ 32 }
         ensures ok { OnOk result (more ≤ (of_kind self.new kind).spare) }
@@ -92,6 +93,7 @@ impl Arbiters {
     }
 
     /// The least place that clashes with nothing of the want's kind.
+    #[inline(always)]
     fn place_of_kind(&self, want: &Want, from: u64) -> Option<u64>
         ensures found { IfSome result (λ s. (from ≤ s) × IsOpen (res_list (of_kind self.now want.now.kind).pairs) want.now s) }
         ensures least { IfSome result (λ s. (t : ℕ) → from ≤ t → t < s → ¬ IsOpen (res_list (of_kind self.now want.now.kind).pairs) want.now t) }
@@ -109,6 +111,7 @@ impl Arbiters {
 
     /// The least start at or above `from` whose resource may come from the want and clashes with nothing
     /// held; none exactly where there is none. It takes no memory. Cost: that of the kind's arbiter.
+    #[inline(always)]
     pub fn next_place(&self, want: &Want, from: u64) -> Option<u64>
         ensures found { IfSome result (λ s. (from ≤ s) × IsOpen (res_list (all_pairs self.now)) want.now s) }
         ensures least { IfSome result (λ s. (t : ℕ) → from ≤ t → t < s → ¬ IsOpen (res_list (all_pairs self.now)) want.now t) }
@@ -132,6 +135,7 @@ impl Arbiters {
     }
 
     /// Puts the pair at its place in the list of its kind. It takes no memory. Cost: that of the kind's arbiter.
+    #[inline(always)]
     pub fn put(&mut self, owner: Owner, res: Res)
         requires { 0 < (of_kind self.old res.kind).spare }
         ensures { self.new ≡ arbiters_with self.old (owner, res) }
@@ -147,6 +151,7 @@ impl Arbiters {
 
     /// Takes the pair away from the list of its kind: with it the lists are as before. It takes no memory.
     /// Cost: that of the kind's arbiter.
+    #[inline(always)]
     pub fn take(&mut self, owner: Owner, res: Res)
         requires { Contains (of_kind self.old res.kind).pairs (owner, res) }
         ensures pairs { self.old ≡ arbiters_with self.new (owner, res) }
