@@ -4,7 +4,7 @@ ghost use Rattle.trial_journal.specs.ByKind.{of_kind, all_pairs, lists_of};
 ghost use Rattle.assign_search.specs.Walking.{put_in, lists_holding, trial};
 
 use resource_reqs::{Owner, Res, WantOfMemory};
-use trial_journal::Arbiters;
+use trial_journal::{Arbiters, Trial};
 
 /// The serial of what a trial places. No device has it, and it is the last in the order of owners, so that what is placed
 /// beside thousands that share a number goes behind them, and is taken off again without moving them.
@@ -22,26 +22,18 @@ pub fn add(board: &mut Arbiters, owner: Owner, res: Res) -> Result<(), WantOfMem
     Ok(())
 }
 
-/// Holds what a step places, for the trial; after want of memory the lists are as before.
+/// Holds what a step places, for the trial.
 #[inline(always)]
-pub fn hold(board: &mut Arbiters, res: &Option<Res>) -> Result<(), WantOfMemory>
-    requires { length (all_pairs board.old) + 1 < 2 ^ 32 }
-    ensures held { OnOk result (lists_of board.new ≡ lists_holding (lists_of board.old) res.now) }
-    ensures err { OnErr result (lists_of board.new ≡ lists_of board.old) }
-{
+pub fn hold(trial: &mut Trial, res: &Option<Res>) {
     if let Some(res) = res {
-        add(board, Owner::Device(NO_DEVICE), *res)?;
+        trial.put(Owner::Device(NO_DEVICE), *res);
     }
-    Ok(())
 }
 
 /// Takes away again what a step placed.
 #[inline(always)]
-pub fn release(board: &mut Arbiters, res: &Option<Res>)
-    requires { ForSome res.now (λ r. Contains (of_kind board.old r.kind).pairs (trial, r)) }
-    ensures { lists_holding (lists_of board.new) res.now ≡ lists_of board.old }
-{
-    if let Some(res) = res {
-        board.take(Owner::Device(NO_DEVICE), *res);
+pub fn release(trial: &mut Trial, res: &Option<Res>) {
+    if res.is_some() {
+        trial.undo_to(trial.mark() - 1);
     }
 }

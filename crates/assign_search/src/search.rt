@@ -1,13 +1,3 @@
-ghost use Rattle.std.specs.Prelude.{◌≡◌, ◌↔◌, ◌<◌, ◌+◌, ◌^◌, ◌++◌, ◌∷◌, List, [], length, map, Contains, IfOk, OnOk, OnErr, IsTrue, Some, None};
-ghost use Rattle.std.specs.List.{AllByRecursion};
-ghost use Rattle.std.specs.Option.{ForSome};
-ghost use Rattle.trial_journal.specs.ByKind.{of_kind, all_pairs, lists_of, Lists};
-ghost use Rattle.resource_reqs.specs.Resources.{Res};
-ghost use Rattle.resource_reqs.specs.Spelling.{IsAnswer};
-ghost use Rattle.assign_search.specs.Fixed.{reqs_of, answer_of};
-ghost use Rattle.assign_search.specs.Walking.{AllOpen, HasOpenList, Adds, IsSpot, groups_at, movers_at, held_in, lists_holding, lists_along, plan_in, trial};
-ghost use Rattle.assign_search.specs.Watching.{AllWatched, AddsStep, Within};
-
 use crate::board::{hold, release};
 use crate::children::{is_complete, next_child};
 use crate::live::is_live_child;
@@ -17,15 +7,13 @@ use crate::plan::{Found, Plan};
 use crate::spelled::plan_of;
 use crate::spots::{Child, Frame, Spot, Step};
 use crate::watch::{Watch, no_watch};
-use resource_reqs::WantOfMemory;
+use resource_reqs::{Kind, WantOfMemory};
 use std::alloc::Global;
-use trial_journal::Arbiters;
+use trial_journal::{Arbiters, Journal, Trial};
 
 /// The frame of a child that is taken.
 #[inline(always)]
-fn frame_of(before: Spot, child: &Child) -> Frame
-    ensures { result ≡ record { before = before; step = child.now.step; next = child.now.next; res = child.now.res } }
-{
+fn frame_of(before: Spot, child: &Child) -> Frame {
     Frame {
         before,
         step: child.step,
@@ -37,15 +25,9 @@ fn frame_of(before: Spot, child: &Child) -> Frame
 /// Appends the frame of what was put on the board last; after want of memory the path is as before, and what
 /// the frame placed is taken off the board.
 #[inline(always)]
-fn grow(board: &mut Arbiters, path: &mut Vec<Frame>, frame: Frame) -> Result<(), WantOfMemory>
-    requires { ForSome frame.res (λ r. Contains (of_kind board.old r.kind).pairs (trial, r)) }
-    ensures path { OnOk result (path.new.items ≡ path.old.items ++ frame ∷ []) }
-    ensures board { OnOk result (board.new ≡ board.old) }
-    ensures short { OnErr result (path.new.items ≡ path.old.items) }
-    ensures back { OnErr result (lists_holding (lists_of board.new) frame.res ≡ lists_of board.old) }
-{
+fn grow(trial: &mut Trial, path: &mut Vec<Frame>, frame: Frame) -> Result<(), WantOfMemory> {
     if let Err(want) = path.push(frame) {
-        release(board, &frame.res);
+        release(trial, &frame.res);
         return Err(want.into());
     }
     Ok(())
@@ -56,33 +38,15 @@ fn grow(board: &mut Arbiters, path: &mut Vec<Frame>, frame: Frame) -> Result<(),
 #[inline(always)]
 fn look_ahead(
     alloc: Global,
-    board: &mut Arbiters,
+    trial: &mut Trial,
     movers: &[Mover],
     child: &Child,
     watch: &mut Watch,
-) -> Result<bool, WantOfMemory>
-    requires spot { IsSpot (map reqs_of movers.now) child.now.spot }
-    requires long { length watch.old.places ≡ length movers.now }
-    requires there { ForSome child.now.res (λ r. Contains (of_kind board.old r.kind).pairs (trial, r)) }
-    ensures long { length watch.new.places ≡ length movers.now }
-    ensures board { OnOk result (board.new ≡ board.old) }
-    ensures back { OnErr result (lists_holding (lists_of board.new) child.now.res ≡ lists_of board.old) }
-    ensures listed { child.now.res ≡ None → AllByRecursion (HasOpenList (held_in board.old)) (movers_at (map reqs_of movers.now) child.now.spot)
-        → AllWatched (held_in board.old) (map reqs_of movers.now) watch.old.sure watch.old.places
-        → IfOk result (λ live. IsTrue live ↔ AllOpen (held_in board.old) (groups_at (map reqs_of movers.now) child.now.spot)) }
-    ensures placed { (res : Res) (before : List Res) → child.now.res ≡ Some res → Adds before res (held_in board.old)
-        → AllWatched before (map reqs_of movers.now) watch.old.sure watch.old.places
-        → AllOpen before (groups_at (map reqs_of movers.now) child.now.spot) → AllByRecursion (HasOpenList before) (movers_at (map reqs_of movers.now) child.now.spot)
-        → IfOk result (λ live. IsTrue live ↔ (AllOpen (held_in board.old) (groups_at (map reqs_of movers.now) child.now.spot) × AllByRecursion (HasOpenList (held_in board.old)) (movers_at (map reqs_of movers.now) child.now.spot))) }
-    ensures watched { (before : List Res) → AddsStep before child.now.res (held_in board.old) → AllWatched before (map reqs_of movers.now) watch.old.sure watch.old.places
-        → IfOk result (λ live. IsTrue live → AllWatched (held_in board.old) (map reqs_of movers.now) watch.new.sure watch.new.places) }
-    ensures kept { (before : List Res) → Within before (held_in board.old) → AllWatched before (map reqs_of movers.now) watch.old.sure watch.old.places
-        → IfOk result (λ live. (IsTrue live → ⊥) → AllWatched before (map reqs_of movers.now) watch.new.sure watch.new.places) }
-{
-    match is_live_child(alloc, board, movers, child, watch) {
+) -> Result<bool, WantOfMemory> {
+    match is_live_child(alloc, trial.arbiters(), movers, child, watch) {
         Ok(live) => Ok(live),
         Err(want) => {
-            release(board, &child.res);
+            release(trial, &child.res);
             Err(want)
         }
     }
@@ -95,24 +59,11 @@ fn plan_along(
     movers: &[Mover],
     path: &mut Vec<Frame>,
     last: Frame,
-) -> Result<Plan, WantOfMemory>
-    ensures plan { IfOk result (λ plan. plan ≡ plan_in (map reqs_of movers.now) (path.old.items ++ last ∷ [])) }
-    ensures path { path.new.items ≡ path.old.items }
-{
+) -> Result<Plan, WantOfMemory> {
     path.push(last)?;
     let plan = plan_of(alloc, movers, path);
     path.pop();
     plan
-}
-
-/// Takes off the board what the frames of a path placed, the last first.
-fn take_back(board: &mut Arbiters, path: &mut Vec<Frame>)
-    requires { (before : Lists) × (lists_of board.old ≡ lists_along before path.old.items) }
-    ensures { (before : Lists) → lists_of board.old ≡ lists_along before path.old.items → lists_of board.new ≡ before }
-{
-    'frames: while let Some(tried) = path.pop() {
-        release(board, &tried.res);
-    }
 }
 
 /// The answer beside what the board holds, where some mover has lists and each has one that is open. What is
@@ -124,30 +75,21 @@ fn take_back(board: &mut Arbiters, path: &mut Vec<Frame>)
 /// none is left the last coordinate of the path is given up for the one after it.
 fn walk_paths(
     alloc: Global,
-    board: &mut Arbiters,
+    trial: &mut Trial,
     movers: &[Mover],
     budget: u64,
     path: &mut Vec<Frame>,
     watch: &mut Watch,
-) -> Result<Found, WantOfMemory>
-    requires few { length (all_pairs board.old) + budget < 2 ^ 32 }
-    requires some_list { ¬ AllByRecursion (λ reqs. reqs ≡ []) (map reqs_of movers.now) }
-    requires open_lists { AllByRecursion (HasOpenList (held_in board.old)) (map reqs_of movers.now) }
-    requires empty { path.old.items ≡ [] }
-    requires long { length watch.old.places ≡ length movers.now }
-    requires sure { watch.old.sure ≡ length movers.now }
-    ensures answer { IfOk result (λ found. IsAnswer (held_in board.old) (map reqs_of movers.now) budget (answer_of found)) }
-    ensures along { lists_of board.new ≡ lists_along (lists_of board.old) path.new.items }
-{
+) -> Result<Found, WantOfMemory> {
     let mut spot = Spot::Between(0);
     let mut from = Step::Alt(0);
     let mut count: u64 = 0;
     'search: loop {
-        let Some(child) = next_child(board, movers, spot, from) else {
+        let Some(child) = next_child(trial.arbiters(), movers, spot, from) else {
             let Some(last) = path.pop() else {
                 return Ok(Found::NoFit);
             };
-            release(board, &last.res);
+            release(trial, &last.res);
             spot = last.before;
             from = last.next;
             continue;
@@ -160,14 +102,14 @@ fn walk_paths(
             let plan = plan_along(alloc, movers, path, frame_of(spot, &child))?;
             return Ok(Found::Assignment(plan));
         }
-        hold(board, &child.res)?;
-        let live = look_ahead(alloc, board, movers, &child, watch)?;
+        hold(trial, &child.res);
+        let live = look_ahead(alloc, trial, movers, &child, watch)?;
         if live {
-            grow(board, path, frame_of(spot, &child))?;
+            grow(trial, path, frame_of(spot, &child))?;
             spot = child.spot;
             from = Step::Alt(0);
         } else {
-            release(board, &child.res);
+            release(trial, &child.res);
             from = child.next;
         }
     }
@@ -177,54 +119,97 @@ fn walk_paths(
 /// board, whatever is answered.
 fn search_paths(
     alloc: Global,
-    board: &mut Arbiters,
+    trial: &mut Trial,
     movers: &[Mover],
     budget: u64,
     path: &mut Vec<Frame>,
-) -> Result<Found, WantOfMemory>
-    requires few { length (all_pairs board.old) + budget < 2 ^ 32 }
-    requires empty { path.old.items ≡ [] }
-    ensures answer { IfOk result (λ found. IsAnswer (held_in board.old) (map reqs_of movers.now) budget (answer_of found)) }
-    ensures along { lists_of board.new ≡ lists_along (lists_of board.old) path.new.items }
-{
+) -> Result<Found, WantOfMemory> {
     if is_complete(movers, Spot::Between(0)) {
         return Ok(Found::Assignment(plan_of(alloc, movers, &[])?));
     }
-    if !all_lists(board, movers, 0) {
+    if !all_lists(trial.arbiters(), movers, 0) {
         return Ok(Found::NoFit);
     }
     let mut watch = no_watch(alloc, movers)?;
-    walk_paths(alloc, board, movers, budget, path, &mut watch)
+    walk_paths(alloc, trial, movers, budget, path, &mut watch)
 }
 
-/// The answer beside what the board holds, all of which is fixed. The lists of the board are as before,
-/// whatever is answered.
+/// How many groups the longest list of a mover has.
+fn most_groups(mover: &Mover) -> u32 {
+    let mut most = 0;
+    for at in 0..mover.reqs.len() {
+        most = most.max(mover.reqs.get(at).len());
+    }
+    most
+}
+
+fn groups_of_kind(mover: &Mover, kind: Kind) -> u32 {
+    let mut most = 0;
+    for at in 0..mover.reqs.len() {
+        let list = mover.reqs.get(at);
+        let mut count = 0;
+        for each in 0..list.len() {
+            let group = list.get(each);
+            let mut some = 0;
+            for want in 0..group.len() {
+                if group.get(want).kind == kind {
+                    some = 1;
+                }
+            }
+            count += some;
+        }
+        most = most.max(count);
+    }
+    most
+}
+
+fn room_of(board: &mut Arbiters, movers: &[Mover], kind: Kind) -> Result<(), WantOfMemory> {
+    let mut count = 0;
+    for at in 0..movers.len() {
+        count += groups_of_kind(&movers[at], kind);
+    }
+    board.room(kind, count)
+}
+
+fn depth_of(movers: &[Mover]) -> u32 {
+    let mut count = 0;
+    for at in 0..movers.len() {
+        count += most_groups(&movers[at]);
+    }
+    count
+}
+
+fn room_for(board: &mut Arbiters, movers: &[Mover]) -> Result<(), WantOfMemory> {
+    room_of(board, movers, Kind::Port)?;
+    room_of(board, movers, Kind::Irq)?;
+    room_of(board, movers, Kind::Mem)?;
+    room_of(board, movers, Kind::Dma)?;
+    room_of(board, movers, Kind::Bus)
+}
+
+/// The answer beside what the board holds.
 pub fn search(
     alloc: Global,
     board: &mut Arbiters,
     movers: &[Mover],
     budget: u64,
-) -> Result<Found, WantOfMemory>
-    requires { length (all_pairs board.old) + budget < 2 ^ 32 }
-    ensures answer { IfOk result (λ found. IsAnswer (held_in board.old) (map reqs_of movers.now) budget (answer_of found)) }
-    ensures same { lists_of board.new ≡ lists_of board.old }
-{
+) -> Result<Found, WantOfMemory> {
+    let journal = Journal::with_room(alloc, depth_of(movers))?;
+    room_for(board, movers)?;
+    let mut trial = Trial::over(board, journal);
     let mut path: Vec<Frame> = Vec::new(alloc);
-    let found = search_paths(alloc, board, movers, budget, &mut path);
-    take_back(board, &mut path);
+    let found = search_paths(alloc, &mut trial, movers, budget, &mut path);
+    trial.roll_back();
     found
 }
 
-/// The same answer, on a board that is for this search alone: what it placed is not taken off again.
+/// The same answer, on a board that is for this search alone.
 pub fn search_on(
     alloc: Global,
-    mut board: Arbiters,
+    board: Arbiters,
     movers: &[Mover],
     budget: u64,
-) -> Result<Found, WantOfMemory>
-    requires { length (all_pairs board) + budget < 2 ^ 32 }
-    ensures { IfOk result (λ found. IsAnswer (held_in board) (map reqs_of movers.now) budget (answer_of found)) }
-{
-    let mut path: Vec<Frame> = Vec::new(alloc);
-    search_paths(alloc, &mut board, movers, budget, &mut path)
+) -> Result<Found, WantOfMemory> {
+    let mut own = board;
+    search(alloc, &mut own, movers, budget)
 }
