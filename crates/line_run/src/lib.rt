@@ -6,3 +6,4 @@ mod run;
 mod telling;
 
 pub use run::LineRun;
+pub use telling::answer_label;

@@ -40,8 +40,9 @@ fn driver_text(alloc: Global, run: &FreeRun, driver: u32) -> Result<Text, WantOf
     }
 }
 
-/// The label of the step in which the driver that is asked answers so.
-fn answer_label(
+/// The label of the step in which the driver that is asked answers so, where a run asks it this. Nothing is done. This project's own.
+/// Cost: the lengths of path and name.
+pub fn answer_label(
     alloc: Global,
     run: &FreeRun,
     query: &Query<'_>,

@@ -1,6 +1,7 @@
 -- Where the lines of a trace lead, and what is allowed there.
 use Rattle.std.proofs.Common.{ℕ, ◌+◌, ◌-◌, ◌<◌, ◌≡◌, ◌⊎◌, true, inl, inr, Option, Some, None, Result, Ok, Err, IfOk, List, [], ◌∷◌, ◌++◌, drop, take, length, map, refl, sym, ap, ◌∙◌, subst, arith, append_assoc, length-append, Vec, Global}
 use Rattle.std.proofs.lemmas.List.{append_cancel_left, take_at}
+use Rattle.std.proofs.Math.Seq.{drop-append_seam}
 use Rattle.std.proofs.lemmas.List.Elements.{Contains-push, Contains-push_cases, Contains-append_left, Contains-append_right, Contains-append_cases}
 use Rattle.std.specs.Prelude.{Contains}
 use Rattle.std.specs.Option.{option_map}
@@ -14,15 +15,16 @@ use Rattle.pnp_labels.specs.declared.words.Answer.{Answer}
 use Rattle.pnp_labels.specs.declared.words.Answer.TheVariants as answers
 use Rattle.pnp_model.specs.Endings.{joined}
 use Rattle.pnp_model.specs.Records.{State, Settings}
-use Rattle.script_reader.specs.Script.{Trace, gives, waits, ends, stops}
+use Rattle.script_reader.specs.Script.{Trace, gives, waits, ends, stops, trace}
+use Rattle.free_model.specs.Frees.{StepsBy}
 use Rattle.free_model.specs.Checks.{Place, Runs, Ends, Allows, AllowsAtRest, Follow, IsYes, IsNo, end_bytes}
 use Rattle.free_model.proofs.OneVerdict.{one_place, no_step, kin_steps}
 use Rattle.free_model.proofs.Ways.{KinLabel, one, asks, adds}
 use Rattle.trace_check.specs.Turns.{IfFront, IsTaken}
 use Rattle.free_run.specs.FreeRuns.{settings}
 use Rattle.trace_hint.specs.declared.spot.Spot.{Spot}
-use Rattle.trace_hint.specs.Spots.{place, IsOf, AllowsBy, Leads}
-use Rattle.trace_hint.specs.Hints.{AreRead, IsInf, IsReached, Arrives, NextBy, LineBy, list_of, AreAllowed, AllowedAt, Stops}
+use Rattle.trace_hint.specs.Spots.{place, IsOf, AllowsBy, FitsAt, Goes, Leads}
+use Rattle.trace_hint.specs.Hints.{AreRead, GoesSoFar, IsInf, IsReached, IsWay, Arrives, NextBy, LineBy, list_of, AreAllowed, AllowedAt, Stops}
 
 -- A line ----------------------------------------------------------------------------------
 
@@ -50,25 +52,45 @@ is_taken answer told here line rest size spot leads front same =
 cut : (t : Text) {m n : Text} → t ++ 10 ∷ m ≡ t ++ 10 ∷ n → m ≡ n
 cut t {m} {n} same = let d = append_cancel_left t (10 ∷ m) (10 ∷ n) same in cc
 
--- the lines that are allowed behind one that is taken
-pub leads_on : (told : Settings) (here mid there : Place) (rest : Text) (size count : ℕ) → IsTaken told here rest size mid → Arrives told mid (drop size rest) count there
-    → Arrives told here rest (count + 1) there
-leads_on told here mid there rest size count taken on other reached = by_lines reached.lines reached.follow reached.is reached.size
+-- what is left of the lines that are allowed behind one that is taken
+pub left_over : (told : Settings) (here mid there : Place) (rest : Text) (size count : ℕ) → IsTaken told here rest size mid → IsReached told here rest (count + 1) there
+    → IsReached told mid (drop size rest) count there
+left_over told here mid there rest size count taken reached = by_lines reached.lines reached.follow reached.is reached.size
   where
-    by_lines : (lines : List Text) → Follow told here lines other → rest ≡ joined lines ++ reached.rest → length lines ≡ count + 1 → other ≡ there
+    by_lines : (lines : List Text) → Follow told here lines there → rest ≡ joined lines ++ reached.rest → length lines ≡ count + 1 → IsReached told mid (drop size rest) count there
     by_lines [] follow is same = absurd (omega (arith, same))
     by_lines (line ∷ lines) (next, allows, follow) is same =
         let whole : taken.line ++ 10 ∷ drop size rest ≡ line ++ 10 ∷ (joined lines ++ reached.rest) = sym taken.front ∙ is ∙ append_assoc line (10 ∷ joined lines) reached.rest in
         let (alike, leads) = one_place told here taken.line line (drop size rest) (joined lines ++ reached.rest) mid next taken.allows allows whole in
         let left : drop size rest ≡ joined lines ++ reached.rest = cut line (ap (λ (t : Text). t ++ 10 ∷ drop size rest) (sym alike) ∙ whole) in
-        on other
-        (record {
+        record {
           lines = lines;
           rest = reached.rest;
-          follow = subst (λ (p : Place). Follow told p lines other) (sym leads) follow;
+          follow = subst (λ (p : Place). Follow told p lines there) (sym leads) follow;
           is = left;
           size = omega (arith, same);
-        })
+        }
+
+-- the lines that are allowed behind one that is taken
+pub leads_on : (told : Settings) (here mid there : Place) (rest : Text) (size count : ℕ) → IsTaken told here rest size mid → Arrives told mid (drop size rest) count there
+    → Arrives told here rest (count + 1) there
+leads_on told here mid there rest size count taken on other reached = on other (left_over told here mid other rest size count taken reached)
+
+-- the way behind one that is taken
+pub way_on : (spot next : Spot) (rest : Text) (size count : ℕ) → IsWay spot rest (count + 1) → ((told : Settings) → IsOf told spot → IsTaken told (place spot) rest size (place next) × IsOf told next)
+    → IsWay next (drop size rest) count
+way_on spot next rest size count way taken =
+    let (here, of) = taken way.told way.of in
+    record { told = way.told; of = of; there = way.there; reached = left_over way.told (place spot) (place next) way.there rest size count here way.reached }
+
+-- on a way of some lines the first is allowed
+pub goes_on : (spot : Spot) (rest : Text) (count : ℕ) → IsWay spot rest count → 0 < count → Goes spot rest
+goes_on spot rest count way some = by_lines way.reached.lines way.reached.follow way.reached.is way.reached.size
+  where
+    by_lines : (lines : List Text) → Follow way.told (place spot) lines way.there → rest ≡ joined lines ++ way.reached.rest → length lines ≡ count → Goes spot rest
+    by_lines [] follow is same = absurd (omega (arith, same, some))
+    by_lines (line ∷ lines) (next, allows, follow) is same =
+        record { told = way.told; of = way.of; line = line; more = joined lines ++ way.reached.rest; next = next; allows = allows; is = is ∙ append_assoc line (10 ∷ joined lines) way.reached.rest }
 
 pub arrived : (told : Settings) (here : Place) (rest : Text) → Arrives told here rest 0 here
 arrived told here rest other reached = by_lines reached.lines reached.follow reached.size
@@ -97,6 +119,35 @@ one_line answer told (Runs s script) k l x y (inl (a, u, hu, la, xa)) (inl (b, v
 one_line answer told (Runs s script) k l x y (inl (a, u, hu, la, xa)) (inr (quiet, g)) = absurd (no_step told s a u quiet (answer, hu))
 one_line answer told (Runs s script) k l x y (inr (quiet, h)) (inl (b, v, hv, lb, xb)) = absurd (no_step told s b v quiet (answer, hv))
 one_line answer told (Runs s script) k l x y (inr (quiet, h)) (inr (still, g)) = one_rest told s script k l x y h g
+
+-- The line that is left ----------------------------------------------------------------------
+
+front_is : (line more rest : Text) → rest ≡ line ++ 10 ∷ more → IfFront true rest (line ++ 10 ∷ [])
+front_is line more rest is =
+    let whole : rest ≡ (line ++ 10 ∷ []) ++ more = is ∙ sym (append_assoc line (10 ∷ []) more) in
+    whole ∙ ap (λ (t : Text). (line ++ 10 ∷ []) ++ t) (sym (ap (drop (length (line ++ 10 ∷ []))) whole ∙ drop-append (line ++ 10 ∷ []) more))
+
+-- the line that is allowed by an answer that fits stands at the front, where one stands there that is allowed
+pub front_of : (answer : Answer) (spot : Spot) (rest : Text) → FitsAt spot rest answer → (goes : Goes spot rest) (line : Text) (next : Place) → AllowsBy answer goes.told (place spot) line next
+    → IfFront true rest (line ++ 10 ∷ [])
+front_of answer (Spot.Ends due at) rest fits goes line next allows =
+    let same : goes.line ≡ line = one_line answer goes.told (place (Spot.Ends due at)) goes.line line goes.next next goes.allows allows in
+    front_is line goes.more rest (goes.is ∙ ap (λ (t : Text). t ++ 10 ∷ goes.more) same)
+front_of answer (Spot.Runs run reader) rest fits goes line next allows = by_both goes.told goes.of goes.allows allows
+  where
+    front : IfFront true rest (goes.line ++ 10 ∷ [])
+    front = front_is goes.line goes.more rest goes.is
+
+    by_both : (told : Settings) → settings run ≡ told → Allows told (place (Spot.Runs run reader)) goes.line goes.next → AllowsBy answer told (place (Spot.Runs run reader)) line next
+        → IfFront true rest (line ++ 10 ∷ [])
+    by_both told of (inl (label, new, (other, steps), is, there)) (inl (own, then, stepped, too, here)) =
+        subst (λ (t : Text). IfFront true rest (t ++ 10 ∷ [])) (sym too)
+        (fits other label own new then (subst (λ (s : Settings). StepsBy other s run.state label new) (sym of) steps) (subst (λ (s : Settings). StepsBy answer s run.state own then) (sym of) stepped)
+        (subst (λ (t : Text). IfFront true rest (t ++ 10 ∷ [])) is front))
+    by_both told of (inl (label, new, steps, is, there)) (inr (quiet, h)) = absurd (no_step told run.state label new quiet steps)
+    by_both told of (inr (quiet, h)) (inl (own, then, stepped, too, here)) = absurd (no_step told run.state own then quiet (answer, stepped))
+    by_both told of (inr (quiet, h)) (inr (still, g)) =
+        subst (λ (t : Text). IfFront true rest (t ++ 10 ∷ [])) (one_rest told run.state (trace true reader.passed reader.rest) goes.line line goes.next next h g) front
 
 -- settings that a spot has
 pub some_told : (spot : Spot) → (told : Settings) × IsOf told spot
@@ -211,4 +262,22 @@ seen_no files budget here trace own line before allowed is found count each read
       stuck = stuck;
       number = number;
       exact = each read too there (record { lines = lines; rest = rest; follow = follow; is = whole; size = omega (arith, number, count) });
+    }
+
+-- before the line that is not allowed all are
+pub goes_no : (files : List (Vec ℕ Global)) (budget : ℕ) (here : Place) (trace : Text) (own : List Inf) (line before : ℕ) → AreRead files own → IsNo (settings_of own budget) here trace line → before ≡ line - 1
+    → GoesSoFar files budget here trace before
+goes_no files budget here trace own line before is (lines, there, rest, follow, whole, stuck, number) count =
+    record { read = own; are = is; there = there; reached = record { lines = lines; rest = rest; follow = follow; is = whole; size = omega (arith, number, count) } }
+
+-- where a run begins, its way is that of the trace
+pub way_from : (files : List (Vec ℕ Global)) (budget : ℕ) (here : Place) (trace : Text) (count : ℕ) (spot : Spot) → GoesSoFar files budget here trace count
+    → ((read : List Inf) → AreRead files read → (place spot ≡ here) × IsOf (settings_of read budget) spot) → IsWay spot trace count
+way_from files budget here trace count spot goes begins =
+    let (same, of) = begins goes.read goes.are in
+    record {
+      told = settings_of goes.read budget;
+      of = of;
+      there = goes.there;
+      reached = subst (λ (p : Place). IsReached (settings_of goes.read budget) p trace count goes.there) (sym same) goes.reached;
     }

@@ -8,7 +8,9 @@ use Rattle.pnp_labels.specs.declared.words.Answer.{Answer}
 use Rattle.pnp_model.specs.Endings.{joined}
 use Rattle.pnp_model.specs.Records.{Settings}
 use Rattle.free_model.specs.Checks.{Place, Allows, Follow, IsStuck, IsYes}
-use Rattle.trace_hint.specs.Spots.{AllowsBy, AllowsNone}
+use Rattle.start_sequence.specs.Begins.{settings_of}
+use Rattle.trace_hint.specs.Spots.{AllowsBy, AllowsNone, IsOf, place}
+use Rattle.trace_hint.specs.declared.spot.Spot.{Spot}
 use Rattle.trace_hint.specs.declared.allowed.Seen.{Seen}
 
 -- an INF that is accepted, of a size that is read
@@ -28,6 +30,20 @@ pub record IsReached (told : Settings) (here : Place) (trace : Text) (count : �
   pub follow : Follow told here lines there
   pub is : trace ≡ joined lines ++ rest
   pub size : length lines ≡ count
+
+-- with settings that a spot has, so many lines are allowed there, one after another
+pub record IsWay (spot : Spot) (rest : Text) (count : ℕ) : Type 0 where
+  pub told : Settings
+  pub of : IsOf told spot
+  pub there : Place
+  pub reached : IsReached told (place spot) rest count there
+
+-- with these INFs, so many lines of the trace are allowed from its beginning on, one after another
+pub record GoesSoFar (infs : List (Vec ℕ Global)) (budget : ℕ) (here : Place) (trace : Text) (count : ℕ) : Type 0 where
+  pub read : List Inf
+  pub are : AreRead infs read
+  pub there : Place
+  pub reached : IsReached (settings_of read budget) here trace count there
 
 -- so many lines of the trace lead nowhere else
 abbrev pub Arrives : Settings → Place → Text → ℕ → Place → Type 0

@@ -11,7 +11,10 @@ use Rattle.script_reader.specs.Reading.{Reading}
 use Rattle.script_reader.specs.Script.{trace}
 use Rattle.free_model.specs.Frees.{StepsBy}
 use Rattle.free_model.specs.Checks.{Place, Runs, Ends, Allows, AllowsAtRest, AllowsFirst, IsOfMachine}
+use Rattle.free_model.specs.Asks.{Query}
 use Rattle.free_run.specs.FreeRuns.{Free, settings}
+use Rattle.line_run.specs.Lines.{answer_label}
+use Rattle.trace_check.specs.Turns.{IfFront}
 use Rattle.trace_hint.specs.declared.spot.Spot.{Spot}
 use Rattle.trace_hint.specs.declared.spot.Move.{Move}
 
@@ -28,6 +31,19 @@ IsReady (Spot.Ends due at) = at ≤ length due.items
 abbrev pub IsOf : Settings → Spot → Type 0
 IsOf told (Spot.Runs run reader) = settings run ≡ told
 IsOf told (Spot.Ends due at) = Unit {0}
+
+-- where the line of this ask stands with some answer, at the front of what is left, it stands with that one
+abbrev pub Stands : Free → Query → Text → Answer → Type 0
+Stands f q rest answer = (other : Answer) → IfFront true rest (label_line (answer_label f q other) ++ 10 ∷ []) → IfFront true rest (label_line (answer_label f q answer) ++ 10 ∷ [])
+
+-- where the line of some next step stands at the front of what is left, the line of the step with this answer does
+abbrev pub Fits : Free → Text → Answer → Type 0
+Fits f rest answer = (other : Answer) (label own : Label) (new next : State) → StepsBy other (settings f) f.state label new → StepsBy answer (settings f) f.state own next
+    → IfFront true rest (label_line label ++ 10 ∷ []) → IfFront true rest (label_line own ++ 10 ∷ [])
+
+abbrev pub FitsAt : Spot → Text → Answer → Type 0
+FitsAt (Spot.Runs run reader) rest answer = Fits run rest answer
+FitsAt (Spot.Ends due at) rest answer = Unit {0}
 
 -- this line is allowed here where drivers that are asked answer so, and leads there
 abbrev pub AllowsBy : Answer → Settings → Place → Text → Place → Type 0
@@ -51,6 +67,16 @@ pub record Leads (answer : Answer) (told : Settings) (here : Place) (line : Text
 abbrev pub IsMove : Answer → Settings → Place → Move → Type 0
 IsMove answer told here (Move.Line line spot) = Leads answer told here line.items spot
 IsMove answer told here Move.Nothing = AllowsNone told here
+
+-- with settings that a spot has, the first line of what is left is allowed there
+pub record Goes (spot : Spot) (rest : Text) : Type 0 where
+  pub told : Settings
+  pub of : IsOf told spot
+  pub line : Text
+  pub more : Text
+  pub next : Place
+  pub allows : Allows told (place spot) line next
+  pub is : rest ≡ line ++ 10 ∷ more
 
 -- the first line of what is due from here on, or that there is none
 abbrev pub IsFirst : Text → ℕ → Move → Type 0

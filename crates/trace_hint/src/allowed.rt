@@ -3,7 +3,7 @@ ghost use Rattle.inf_reader.specs.declared.parts.Inf.{Inf};
 ghost use Rattle.start_sequence.specs.Begins.{settings_of};
 ghost use Rattle.script_reader.specs.Script as scripts;
 ghost use Rattle.free_model.specs.Checks.{beginning};
-ghost use Rattle.trace_hint.specs.Hints.{AllowedAt, AreRead, IsInf, IsSeen, LineBy, NextBy, list_of};
+ghost use Rattle.trace_hint.specs.Hints.{AllowedAt, AreRead, GoesSoFar, IsInf, IsSeen, LineBy, NextBy, list_of};
 ghost use Rattle.trace_hint.specs.Spots.{IsOf, IsReady, place};
 ghost use Rattle.pnp_model.specs.Records.{Settings};
 
@@ -58,6 +58,7 @@ fn line_by(
     requires accepted { All (λ bytes. IsInf bytes.items) infs.now }
     requires kinds { length kinds.now < 2 ^ 32 }
     requires budget { budget ≤ 1000000 }
+    requires goes { GoesSoFar infs.now budget (beginning kinds.now (scripts.trace true 0 script.now)) trace.now before }
     ensures { IfOk result (λ line. (read : List Inf) → AreRead infs.now read
         → LineBy answer (settings_of read budget) (beginning kinds.now (scripts.trace true 0 script.now)) trace.now before (option_map (λ l. l.items) line)) }
 {
@@ -82,7 +83,7 @@ fn add_line(lines: &mut Vec<Vec<u8>>, line: Option<Vec<u8>>) -> Result<(), WantO
 /// The lines, without LFs, that are allowed after so many lines of a trace, which are allowed one after another: one, or the lines of an
 /// ask with its answers, or none where nothing more is due, or where the script has a line of clients. A line is among them exactly where
 /// the definition allows it there. Conditions: those of `check_trace`; the INFs are given by their bytes, of which
-/// each has at most 16,777,216 and is accepted. This project's own. Cost: three times that of the run up to there.
+/// each has at most 16,777,216 and is accepted; and so many lines are allowed, one after another. This project's own. Cost: three times that of the run up to there.
 pub fn allowed_at(
     alloc: Global,
     script: &[u8],
@@ -97,6 +98,7 @@ pub fn allowed_at(
     requires accepted { All (λ bytes. IsInf bytes.items) infs.now }
     requires kinds { length kinds.now < 2 ^ 32 }
     requires budget { budget ≤ 1000000 }
+    requires goes { GoesSoFar infs.now budget (beginning kinds.now (scripts.trace true 0 script.now)) trace.now before }
     ensures { IfOk result (λ allowed. (read : List Inf) → AreRead infs.now read
         → AllowedAt (settings_of read budget) (beginning kinds.now (scripts.trace true 0 script.now)) trace.now before (map (λ l. l.items) allowed.items)) }
 {
@@ -138,7 +140,7 @@ pub fn allowed_at(
 }
 
 /// Whether a trace is a run of the machine, as `check_trace` says, and where it is none, which lines are allowed in place of the first
-/// that is not. Conditions: as `allowed_at`. This project's own. Cost: that of the check, and three times that of the run up to there.
+/// that is not. Conditions: those of `allowed_at` but the last. This project's own. Cost: that of the check, and three times that of the run up to there.
 pub fn look_at(
     alloc: Global,
     script: &[u8],
